@@ -1,0 +1,3 @@
+pub mod ByPath
+pub mod Picked
+pub mod Replay

@@ -1,0 +1,11 @@
+pub mod Disk
+pub mod DiskLaws
+pub mod FaultDisk
+pub mod Gift
+pub mod Images
+pub mod MemoryDisk
+pub mod MemoryDiskLaws
+pub mod MemoryEntry
+pub mod MemoryImages
+pub mod OneSector
+pub mod Outcome

@@ -1,0 +1,19 @@
+//! Disks as their callers see them: what a read gives, and what a stop at any moment may leave.
+#![tactic(auto)]
+
+mod blank;
+mod disk;
+mod fault_disk;
+mod images;
+mod memory_disk;
+mod memory_images;
+mod outcome;
+#[cfg(test)]
+mod tests;
+
+pub use blank::Blank;
+pub use disk::Disk;
+pub use fault_disk::FaultDisk;
+pub use images::Images;
+pub use memory_disk::MemoryDisk;
+pub use memory_images::MemoryImages;

@@ -1,0 +1,132 @@
+ghost use Rattle.std.specs.Prelude.{◌≡◌, ◌≤◌, IsTrue, IfOk};
+
+use super::*;
+use life_bytes::Sector;
+use life_ports::{Failed, NoMemory, Refused};
+use std::alloc::Global;
+use std::test::Fail;
+
+// A sector that is told from others by its first byte.
+fn marked(mark: u8) -> Sector {
+    let mut sector = Sector::zero();
+    sector.bytes[0] = mark;
+    sector
+}
+
+fn blank_disk<D: Blank>(alloc: Global) -> Result<D, NoMemory>
+    ensures { IfOk result (λ disk. D.sector_count disk ≡ 4) }
+{
+    D::blank(alloc, 4)
+}
+
+// Writes the sectors 1 and 2, flushes, and reads the sector 2. Gives the three answers, the mark that was
+// read, and the count of faults.
+fn write_flush_read<D: Disk>(disk: &mut D) -> ([Result<(), Failed>; 3], u8, u64)
+    requires { 4 ≤ D.sector_count disk.old }
+    ensures { D.sector_count disk.new ≡ D.sector_count disk.old }
+{
+    let mut sector = marked(9);
+    let written = disk.write(1, &[marked(5), marked(6)]);
+    let flushed = disk.flush();
+    let read = disk.read(2, &mut sector);
+    ([written, flushed, read], sector.bytes[0], disk.faults())
+}
+
+#[test]
+fn what_was_written_is_read(rt: HostRuntime) -> Result<(), Fail> {
+    let mut disk: MemoryDisk = blank_disk(rt.alloc())?;
+    assert_eq!(rt; disk.sectors(), 4);
+    assert_eq!(rt; write_flush_read(&mut disk), ([Ok(()); 3], 6, 0));
+    assert_eq!(rt; disk.sectors(), 4);
+    assert_eq!(rt; disk.sector(0), Sector::zero());
+    assert_eq!(rt; disk.sector(1), marked(5));
+    Ok(())
+}
+
+#[test]
+fn a_disk_fails_as_planned(rt: HostRuntime) -> Result<(), Fail> {
+    let alloc = rt.alloc();
+    for (call, answers, mark) in [
+        (1, [Err(Failed), Ok(()), Ok(())], 0),
+        (2, [Ok(()), Err(Failed), Ok(())], 6),
+        (3, [Ok(()), Ok(()), Err(Failed)], 9),
+    ] {
+        let inner: MemoryDisk = blank_disk(alloc)?;
+        let mut disk = FaultDisk::new(inner, vec![in alloc; call]?);
+        assert_eq!(rt;
+            write_flush_read(&mut disk),
+            (answers, mark, 1),
+            "at {call}"
+        );
+        assert_eq!(rt; disk.into_inner().faults(), 0);
+    }
+    let mut disk: FaultDisk<MemoryDisk> = blank_disk(alloc)?;
+    assert_eq!(rt; write_flush_read(&mut disk), ([Ok(()); 3], 6, 0));
+    Ok(())
+}
+
+#[test]
+fn a_stop_leaves_each_choice(rt: HostRuntime) -> Result<(), Fail> {
+    let alloc = rt.alloc();
+    for (choice, left) in [
+        (0, [1, 2]),
+        (1, [11, 2]),
+        (2, [1, 12]),
+        (3, [11, 12]),
+        (4, [1, 22]),
+        (5, [11, 22]),
+        (6, [1, 2]),
+        (u64::MAX, [11, 12]),
+    ] {
+        let mut disk = MemoryDisk::with(alloc, vec![in alloc; marked(0), marked(0)]?)?;
+        disk.write(0, &[marked(1), marked(2)])?;
+        disk.flush()?;
+        disk.write(0, &[marked(11), marked(12)])?;
+        disk.write(1, &[marked(22)])?;
+        disk.pick(choice);
+        assert_eq!(rt; disk.sector(0), marked(left[0]), "choice {choice}");
+        assert_eq!(rt; disk.sector(1), marked(left[1]), "choice {choice}");
+        assert_eq!(rt; disk.faults(), 0);
+    }
+    Ok(())
+}
+
+// What an attach and a create answer, where they answer a disk by its number of sectors.
+fn attach_to<I: Images>(images: &mut I, path: &str) -> Result<u64, Refused> {
+    Ok(images.attach(path)?.sectors())
+}
+
+fn create_at<I: Images>(images: &mut I, path: &str) -> Result<u64, Refused> {
+    Ok(images.create(path, 3)?.sectors())
+}
+
+#[test]
+fn disks_stand_at_paths(rt: HostRuntime) -> Result<(), Fail> {
+    let alloc = rt.alloc();
+    let mut images = MemoryImages::new(alloc, vec![in alloc; 4, 7]?);
+    for (path, sectors) in [("one", 1), ("two", 2)] {
+        assert!(rt; !images.is_listed(path));
+        let disk: FaultDisk<MemoryDisk> = FaultDisk::blank(alloc, sectors)?;
+        let added = images.add(path, disk);
+        assert!(rt; added.is_ok());
+    }
+    assert!(rt; images.is_listed("two"));
+    assert_eq!(rt; attach_to(&mut images, "two"), Ok(2));
+    assert_eq!(rt; attach_to(&mut images, "two"), Err(Refused::Failed));
+    assert_eq!(rt; create_at(&mut images, "one"), Err(Refused::Failed));
+    assert_eq!(rt;
+        create_at(&mut images, "three"),
+        Err(Refused::Failed),
+        "call 4"
+    );
+    assert_eq!(rt; create_at(&mut images, "three"), Ok(3));
+    assert_eq!(rt; attach_to(&mut images, "three"), Err(Refused::Failed));
+    assert_eq!(rt;
+        attach_to(&mut images, "one"),
+        Err(Refused::Failed),
+        "call 7"
+    );
+    assert_eq!(rt; attach_to(&mut images, "one"), Ok(1));
+    assert_eq!(rt; images.faults(), 5);
+    Ok(())
+}
