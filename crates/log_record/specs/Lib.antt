@@ -1,0 +1,4 @@
+pub mod Spelling
+pub mod Whole
+pub mod Payload
+pub mod Outline

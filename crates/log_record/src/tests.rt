@@ -1,0 +1,190 @@
+ghost use Rattle.std.specs.Prelude.{◌≡◌, ◌≤◌, ◌<◌, ◌+◌, ◌^◌, IfOk, length};
+ghost use Rattle.log_record.specs.Spelling.{IsRecord};
+
+use super::*;
+use life_bytes::Sector;
+use life_ports::NoMemory;
+use std::alloc::Global;
+use std::test::Fail;
+
+fn image(home: u64, byte: u8) -> Image
+    ensures { result.home ≡ home }
+{
+    Image {
+        home,
+        sector: Sector { bytes: [byte; 512] },
+    }
+}
+
+/// A record of three images and two commits at position 14, in need of the positions from 12 on.
+fn sample(alloc: Global) -> Result<LogRecord, NoMemory>
+    ensures { IfOk result IsRecord }
+{
+    let mut images = ImageList::new(alloc);
+    images.push(image(16, 0xa1))?;
+    images.push(image(17, 0xb2))?;
+    images.push(image(40, 0xc3))?;
+    Ok(LogRecord {
+        position: 14,
+        tail: 12,
+        first: 7,
+        commits: 2,
+        images,
+    })
+}
+
+/// Puts the sectors in the places of a position and those behind it.
+fn put(ring: &mut [Sector], position: u64, sectors: &[Sector])
+    requires some { 0 < length ring.old }
+    requires positions { position + length sectors.now < 2 ^ 64 }
+{
+    for (i, sector) in sectors.iter().enumerate() {
+        let place = (position + i as u64) % ring.len() as u64;
+        ring[place as usize] = *sector;
+    }
+}
+
+#[test]
+fn sizes_of_records(rt: HostRuntime) {
+    for (images, sectors) in [(0, 1), (3, 4), (4, 5), (67, 71), (128, 135)] {
+        assert_eq!(rt; record_sectors(images), sectors, "{images} images");
+    }
+}
+
+#[test]
+fn a_record_is_spelled(rt: HostRuntime) -> Result<(), Fail> {
+    let sectors = record_bytes(rt.alloc(), &sample(rt.alloc())?)?;
+    assert_eq!(rt; sectors.len(), 4);
+    let head = [
+        [0, 0, 0, 0, 0, 0, 0, 14],
+        [0, 0, 0, 0, 0, 0, 0, 14],
+        [0, 0, 0, 0, 0, 0, 0, 12],
+        [0, 0, 0, 0, 0, 0, 0, 7],
+        [0, 0, 0, 2, 0, 0, 0, 3],
+        [0, 0, 0, 4, 0, 0, 0, 0],
+        [0, 0, 0, 0, 0, 0, 0, 16],
+    ];
+    for (i, want) in head.iter().enumerate() {
+        let number = sectors[0].bytes.get(8 * i..8 * i + 8);
+        assert_eq!(rt; number, Some(want.as_slice()), "number {i}");
+    }
+    let runs = [
+        (0, 56, 72, 0xa1),
+        (0, 72, 512, 0xa1),
+        (1, 16, 72, 0xa1),
+        (1, 72, 79, 0),
+        (1, 79, 80, 17),
+        (1, 80, 512, 0xb2),
+        (2, 7, 8, 16),
+        (2, 15, 16, 14),
+        (2, 16, 96, 0xb2),
+        (2, 103, 104, 40),
+        (2, 104, 512, 0xc3),
+        (3, 16, 120, 0xc3),
+        (3, 120, 512, 0),
+    ];
+    for (sector, from, to, byte) in runs {
+        let sector = sectors.get(sector).ok_or("no sector")?;
+        let run = sector.bytes.get(from..to).ok_or("no run")?;
+        assert!(rt; run.iter().all(|b| *b == byte), "from {from} to {to}");
+    }
+    Ok(())
+}
+
+#[test]
+fn a_record_is_read_round_the_end_of_the_ring(rt: HostRuntime) -> Result<(), Fail> {
+    let item = sample(rt.alloc())?;
+    let sectors = record_bytes(rt.alloc(), &item)?;
+    assert_eq!(rt; sectors.len(), 4);
+    let mut ring = [Sector::zero(); 8];
+    put(&mut ring, 14, &sectors);
+    let found = read_record(rt.alloc(), &ring, 14)?.ok_or("none")?;
+    assert_eq!(rt;
+        (found.position, found.tail, found.first, found.commits),
+        (14, 12, 7, 2)
+    );
+    assert_eq!(rt; found.images.as_slice(), item.images.as_slice());
+    assert!(rt; read_record(rt.alloc(), &ring, 6)?.is_none());
+    assert!(rt; read_record(rt.alloc(), &ring, u64::MAX)?.is_none());
+    assert!(rt; read_record(rt.alloc(), &[], 14)?.is_none());
+    Ok(())
+}
+
+#[test]
+fn a_torn_record_is_none(rt: HostRuntime) -> Result<(), Fail> {
+    let sectors = record_bytes(rt.alloc(), &sample(rt.alloc())?)?;
+    assert_eq!(rt; sectors.len(), 4);
+    for count in 0..5 {
+        let mut ring = [Sector::zero(); 8];
+        put(&mut ring, 14, &sectors[..count]);
+        let found = read_record(rt.alloc(), &ring, 14)?;
+        assert_eq!(rt; found.is_some(), count == 4, "{count} sectors");
+    }
+    Ok(())
+}
+
+#[test]
+fn a_record_with_another_byte_is_none(rt: HostRuntime) -> Result<(), Fail> {
+    let sectors = record_bytes(rt.alloc(), &sample(rt.alloc())?)?;
+    assert_eq!(rt; sectors.len(), 4);
+    // The place in the ring, the byte in the sector, and what it is to be.
+    let cases = [
+        (6, 23, 10, true), // the lowest tail that has room
+        (6, 23, 9, false), // a tail that has none
+        (6, 23, 14, true), // the highest tail
+        (6, 23, 15, false), // a tail above the position
+        (6, 39, 129, false), // too many images
+        (6, 43, 5, false), // more sectors than the images take
+        (6, 47, 1, false), // behind the number of sectors
+        (7, 79, 16, false), // a home twice
+        (7, 79, 40, false), // homes that do not ascend
+        (7, 79, 39, true), // another home
+        (0, 7, 15, false), // a sector of another position
+        (0, 15, 13, false), // a sector of another record
+        (1, 120, 1, false), // behind the images
+        (1, 511, 1, false), // the last byte
+    ];
+    for (place, at, byte, whole) in cases {
+        let mut ring = [Sector::zero(); 8];
+        put(&mut ring, 14, &sectors);
+        *ring
+            .get_mut(place)
+            .and_then(|sector| sector.bytes.get_mut(at))
+            .ok_or("no byte")? = byte;
+        let found = read_record(rt.alloc(), &ring, 14)?;
+        assert_eq!(rt; found.is_some(), whole, "place {place} byte {at}");
+    }
+    Ok(())
+}
+
+#[test]
+fn a_record_without_images_is_one_sector(rt: HostRuntime) -> Result<(), Fail> {
+    let item = LogRecord {
+        position: 583,
+        tail: 583,
+        first: 3,
+        commits: 0,
+        images: ImageList::new(rt.alloc()),
+    };
+    let mut ring = [Sector::zero(); 256];
+    fill_record(&item, &mut ring[71..72]);
+    let found = read_record(rt.alloc(), &ring, 583)?.ok_or("none")?;
+    assert_eq!(rt; (found.tail, found.first, found.commits), (583, 3, 0));
+    assert!(rt; found.images.is_empty());
+    whole_records();
+    Ok(())
+}
+
+#[test]
+fn a_list_is_made_from_a_vector_and_gives_it_back(rt: HostRuntime) -> Result<(), Fail> {
+    let images = ImageList::from(vec![in rt.alloc(); image(16, 1), image(17, 2)]?);
+    let commit = Commit { group: 0, images };
+    assert_eq!(rt; commit.images.len(), 2);
+    let Commit { group, images } = commit;
+    assert_eq!(rt; group, 0);
+    assert_eq!(rt;
+        images.into_vec().as_slice(),
+        [image(16, 1), image(17, 2)].as_slice()
+    );
+    Ok(())
+}
