@@ -1,0 +1,62 @@
+-- The AGI header as a sector.
+use Rattle.std.specs.Prelude.{◌≡◌, ◌≤◌, ◌<◌, ◌^◌, ℕ, List, [], ◌∷◌, length, get_or, slice_set}
+use Rattle.std.specs.List.{flat_map}
+use Rattle.byteorder.specs.Endian.{big_bytes}
+use Rattle.geometry.specs.declared.limits.TheConstants.{FIRST_PAGE_BLOCK, LAST_PAGE_BLOCK, MAX_LEVEL, NO_INODE}
+use Rattle.life_bytes.specs.Pieces.{Row, number, piece, placed, blank, sealed}
+use Rattle.ag_header.specs.declared.agi.Agi.{Agi}
+
+-- the root page is a block of pages, and the level is one that trees have
+pub record IsAgi (agi : Agi) : Type 0 where
+  pub root : (FIRST_PAGE_BLOCK ≤ agi.root) × (agi.root ≤ LAST_PAGE_BLOCK)
+  pub level : (1 ≤ agi.level) × (agi.level ≤ MAX_LEVEL)
+
+-- the fields have their widths
+pub record Fits (agi : Agi) : Type 0 where
+  pub group : agi.group < 2 ^ 32
+  pub blocks : agi.blocks < 2 ^ 32
+  pub count : agi.count < 2 ^ 32
+  pub free : agi.free < 2 ^ 32
+  pub heads : length agi.heads ≡ 64
+  pub each_head : (k : ℕ) → get_or agi.heads k 0 < 2 ^ 32
+  pub uuid : length agi.uuid ≡ 16
+
+abbrev pub fields : Agi → List Row
+fields agi =
+    number 0 4 0x5841_4749
+    ∷ number 4 4 1
+    ∷ number 8 4 agi.group
+    ∷ number 12 4 agi.blocks
+    ∷ number 16 4 agi.count
+    ∷ number 20 4 agi.root
+    ∷ number 24 4 agi.level
+    ∷ number 28 4 agi.free
+    ∷ number 32 4 NO_INODE
+    ∷ number 36 4 NO_INODE
+    ∷ piece 40 256 (flat_map (big_bytes 4) agi.heads)
+    ∷ piece 296 16 agi.uuid
+    ∷ []
+
+-- the sector that spells a header, with the checksum at byte 312
+unfoldable pub spelling : Agi → List ℕ
+spelling agi = sealed 312 (placed (fields agi) blank)
+
+-- the sector spells the header
+pub record Spells (bytes : List ℕ) (agi : Agi) : Type 0 where
+  pub allowed : IsAgi agi
+  pub fits : Fits agi
+  pub sector : bytes ≡ spelling agi
+
+-- the sector reads as some header
+abbrev pub IsHeader : List ℕ → Type 0
+IsHeader bytes = (agi : Agi) × Spells bytes agi
+
+-- the header with another head of one bucket, with other counts, with another root
+abbrev pub with_head : Agi → ℕ → ℕ → Agi
+with_head agi bucket agino = record agi { heads = slice_set agi.heads bucket agino }
+
+abbrev pub with_counts : Agi → ℕ → ℕ → Agi
+with_counts agi count free = record agi { count = count; free = free }
+
+abbrev pub with_root : Agi → ℕ → ℕ → Agi
+with_root agi root level = record agi { root = root; level = level }

@@ -1,0 +1,125 @@
+-- The runs of a list of blocks.
+use Rattle.std.proofs.Common.{◌≡◌, ◌≢◌, ◌≤◌, ◌<◌, ◌+◌, ℕ, zero, suc, Bool, true, false, cond, eqb, List, [], ◌∷◌, ◌++◌, length, drop, get_or, refl, sym, ap, subst, ◌∙◌, arith, append_assoc, eq-eqb, add-one, inl, inr, ◌⊎◌}
+use Rattle.std.specs.List.{AllByRecursion, flat_map, range_with_len}
+use Rattle.std.proofs.lemmas.Bool.Decides.{eqb_tells}
+use Rattle.std.proofs.lemmas.List.{drop_more, drop_all}
+use Rattle.std.proofs.lemmas.List.Concat.{flat_map-cons}
+use Rattle.extent_fork.specs.declared.extent.Extent.{Extent}
+use Rattle.extent_fork.specs.Runs.{single, end_of, grown, runs_from, runs, blocks_of, AreApart, AreLongestRuns}
+use Rattle.extent_fork.specs.Forks.{IsRun, AreRuns}
+use Rattle.extent_fork.proofs.Lists.{AreApartAfter, with_first}
+
+chosen : (b : Bool) (x y : List Extent) → b ≡ true → cond b x y ≡ x
+chosen b x y e = ap (λ (t : Bool). cond t x y) e
+
+left_out : (b : Bool) (x y : List Extent) → b ≡ false → cond b x y ≡ y
+left_out b x y e = ap (λ (t : Bool). cond t x y) e
+
+ne-eqb : (a b : ℕ) → a ≢ b → eqb a b ≡ false
+ne-eqb a b ne = elim (eqb_tells a b) [ inl p ↦ absurd (ne p.1) | inr p ↦ p.0 ]
+
+-- the next block goes on with the run
+pub goes_on : (run : Extent) (rest : List ℕ) (i d : ℕ) → i < length rest → get_or rest i d ≡ end_of run → runs_from run (drop i rest) ≡ runs_from (grown run) (drop (i + 1) rest)
+goes_on run rest i d lt e =
+    let others = drop (i + 1) rest in
+    let block = get_or rest i d in
+    ap (runs_from run) (drop_more rest i d lt) ∙ chosen (eqb block (end_of run)) (runs_from (grown run) others) (run ∷ runs_from (single block) others) (eq-eqb block (end_of run) e)
+
+-- the next block begins a run
+pub begins : (run : Extent) (rest : List ℕ) (i d : ℕ) → i < length rest → get_or rest i d ≢ end_of run → runs_from run (drop i rest) ≡ run ∷ runs_from (single (get_or rest i d)) (drop (i + 1) rest)
+begins run rest i d lt ne =
+    let others = drop (i + 1) rest in
+    let block = get_or rest i d in
+    ap (runs_from run) (drop_more rest i d lt) ∙ left_out (eqb block (end_of run)) (runs_from (grown run) others) (run ∷ runs_from (single block) others) (ne-eqb block (end_of run) ne)
+
+pub some_run : (run : Extent) (blocks : List ℕ) → 1 ≤ length (runs_from run blocks)
+some_run run [] = omega arith
+some_run run (block ∷ blocks) = either (eqb block (end_of run)) (some_run (grown run) blocks)
+  where
+    either : (b : Bool) → 1 ≤ length (runs_from (grown run) blocks) → 1 ≤ length (cond b (runs_from (grown run) blocks) (run ∷ runs_from (single block) blocks))
+    either true more = more
+    either false more = omega arith
+
+-- ---- the longest runs
+
+range_push : (n a : ℕ) → range_with_len a (suc n) ≡ range_with_len a n ++ (a + n) ∷ []
+range_push zero a = let e : a ≡ a + 0 = omega arith in ap (λ (x : ℕ). x ∷ []) e
+range_push (suc n) a =
+    let e : a + 1 + n ≡ a + suc n = omega arith in
+    ap (λ (l : List ℕ). a ∷ l) (range_push n (a + 1)) ∙ ap (λ (x : ℕ). a ∷ (range_with_len (a + 1) n ++ x ∷ [])) e
+
+blocks_of-grown : (run : Extent) → blocks_of (grown run) ≡ blocks_of run ++ end_of run ∷ []
+blocks_of-grown run = rw add-one (range_push run.count run.start)
+
+-- what holds of the runs that follow a run
+record Follow (run : Extent) (blocks : List ℕ) (found : List Extent) : Type 0 where
+  all : flat_map blocks_of found ≡ blocks_of run ++ blocks
+  counts : AllByRecursion (λ one. 1 ≤ one.count) found
+  apart : (end : ℕ) → run.start ≢ end → AreApartAfter end found
+
+follow : (run : Extent) (blocks : List ℕ) → 1 ≤ run.count → Follow run blocks (runs_from run blocks)
+follow run [] counted = record { all = flat_map-cons blocks_of run []; counts = (counted, tt); apart = λ end ne. (ne, tt) }
+follow run (block ∷ blocks) counted =
+    either (eqb_tells block (end_of run)) (follow (grown run) blocks (omega arith)) (follow (single block) blocks (omega arith))
+  where
+    either : ((eqb block (end_of run) ≡ true) × (block ≡ end_of run)) ⊎ ((eqb block (end_of run) ≡ false) × (block ≢ end_of run))
+        → Follow (grown run) blocks (runs_from (grown run) blocks) → Follow (single block) blocks (runs_from (single block) blocks) → Follow run (block ∷ blocks) (runs_from run (block ∷ blocks))
+    either (inl p) more new = subst (Follow run (block ∷ blocks)) (sym (chosen (eqb block (end_of run)) (runs_from (grown run) blocks) (run ∷ runs_from (single block) blocks) p.0)) (record {
+      all = more.all ∙ ap (λ (l : List ℕ). l ++ blocks) (blocks_of-grown run) ∙ append_assoc (blocks_of run) (end_of run ∷ []) blocks ∙ ap (λ (x : ℕ). blocks_of run ++ (x ∷ blocks)) (sym p.1);
+      counts = more.counts;
+      apart = more.apart;
+    })
+    either (inr p) more new = subst (Follow run (block ∷ blocks)) (sym (left_out (eqb block (end_of run)) (runs_from (grown run) blocks) (run ∷ runs_from (single block) blocks) p.0)) (record {
+      all = flat_map-cons blocks_of run (runs_from (single block) blocks) ∙ ap (λ (l : List ℕ). blocks_of run ++ l) new.all;
+      counts = (counted, new.counts);
+      apart = λ end ne. (ne, with_first run (runs_from (single block) blocks) (new.apart (end_of run) p.1));
+    })
+
+pub longest : (blocks : List ℕ) (found : List Extent) → found ≡ runs blocks → AreLongestRuns blocks found
+longest blocks found e = subst (AreLongestRuns blocks) (sym e) (by blocks)
+  where
+    apart_alone : (end : ℕ) (list : List Extent) → AreApartAfter end list → AreApart list
+    apart_alone end [] h = tt
+    apart_alone end (run ∷ list) h = h.1
+
+    by : (blocks : List ℕ) → AreLongestRuns blocks (runs blocks)
+    by [] = record { all = refl; counts = tt; apart = tt }
+    by (block ∷ blocks) =
+        let f = follow (single block) blocks (omega arith) in
+        record { all = f.all; counts = f.counts; apart = apart_alone (suc block) (runs_from (single block) blocks) (f.apart (suc block) (omega arith)) }
+
+-- a block behind the first is as small as all are
+pub next_small : (first : ℕ) (rest blocks : List ℕ) (i : ℕ) → blocks ≡ first ∷ rest → ((k : ℕ) (d : ℕ) → k < length blocks → get_or blocks k d < 16384) → i < length rest → get_or rest i 0 < 16384
+next_small first rest blocks i e all lt = subst (λ (l : List ℕ). get_or l (suc i) 0 < 16384) e (all (suc i) 0 (omega (arith, ap length e)))
+
+-- the runs so far, and the last of them, where no block is left
+pub last_run : (front : List Extent) (run : Extent) (rest : List ℕ) (i : ℕ) (all : List Extent) → length rest ≤ i → front ++ runs_from run (drop i rest) ≡ all → front ++ run ∷ [] ≡ all
+last_run front run rest i all le whole = ap (λ (l : List ℕ). front ++ runs_from run l) (sym (drop_all i rest le)) ∙ whole
+
+abbrev AreData : List ℕ → Type 0
+AreData blocks = (k : ℕ) (d : ℕ) → k < length blocks → (24 ≤ get_or blocks k d) × (get_or blocks k d < 16384)
+
+data_runs : (run : Extent) (blocks : List ℕ) → IsRun run → AreData blocks → AllByRecursion IsRun (runs_from run blocks)
+data_runs run [] is small = (is, tt)
+data_runs run (block ∷ blocks) is small =
+    let one = small 0 0 (omega arith) in
+    let rest : AreData blocks = λ k d lt. small (suc k) d (omega arith) in
+    let alone : IsRun (single block) = record { count = omega arith; start = one.0; end = omega (arith, one.1) } in
+    either (eqb_tells block (end_of run)) (λ e. data_runs (grown run) blocks (record { count = omega (arith, is.count); start = is.start; end = omega (arith, one.1, e) }) rest) (data_runs (single block) blocks alone rest)
+  where
+    either : ((eqb block (end_of run) ≡ true) × (block ≡ end_of run)) ⊎ ((eqb block (end_of run) ≡ false) × (block ≢ end_of run))
+        → (block ≡ end_of run → AllByRecursion IsRun (runs_from (grown run) blocks)) → AllByRecursion IsRun (runs_from (single block) blocks) → AllByRecursion IsRun (runs_from run (block ∷ blocks))
+    either (inl p) more new = subst (AllByRecursion IsRun) (sym (chosen (eqb block (end_of run)) (runs_from (grown run) blocks) (run ∷ runs_from (single block) blocks) p.0)) (more p.1)
+    either (inr p) more new = subst (AllByRecursion IsRun) (sym (left_out (eqb block (end_of run)) (runs_from (grown run) blocks) (run ∷ runs_from (single block) blocks) p.0)) (is, new)
+
+-- the runs of data blocks are those of a fork
+pub for_fork : (blocks : List ℕ) (found : List Extent) → found ≡ runs blocks → ((k : ℕ) (d : ℕ) → k < length blocks → get_or blocks k d < 16384)
+    → ((k : ℕ) (d : ℕ) → k < length blocks → 24 ≤ get_or blocks k d) → AreRuns found
+for_fork blocks found e below above =
+    record { each = subst (AllByRecursion IsRun) (sym e) (by blocks (λ k d lt. (above k d lt, below k d lt))); apart = (longest blocks found e).apart }
+  where
+    by : (blocks : List ℕ) → AreData blocks → AllByRecursion IsRun (runs blocks)
+    by [] small = tt
+    by (block ∷ blocks) small =
+        let one = small 0 0 (omega arith) in
+        data_runs (single block) blocks (record { count = omega arith; start = one.0; end = omega (arith, one.1) }) (λ k d lt. small (suc k) d (omega arith))

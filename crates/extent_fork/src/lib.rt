@@ -1,0 +1,97 @@
+//! The extent fork: the runs of blocks that an inode has, from byte 176 of its sector on.
+//!
+//! A record has 16 bytes, one big-endian number. From the top bit: a flag, which is 0 here; 54 bits of
+//! offset in the file, in blocks; 52 bits of start block; 21 bits of count. The start block is the group
+//! times 2^14 plus the block of the group. Offsets begin at 0 and leave no hole. Behind the last record
+//! the fork is zero.
+#![tactic(auto)]
+
+mod extent;
+mod fault;
+mod reading;
+mod runs;
+mod writing;
+
+pub use extent::Extent;
+pub use fault::{ForkFault, RunsFault};
+pub use reading::read_fork;
+pub use runs::runs_of;
+pub use writing::write_fork;
+
+#[cfg(test)]
+mod tests {
+    use super::*;
+    use life_bytes::Sector;
+    use std::test::Fail;
+
+    const RUN: Extent = Extent {
+        start: 32,
+        count: 3,
+    };
+
+    #[test]
+    fn blocks_become_runs(rt: HostRuntime) -> Result<(), Fail> {
+        let runs = runs_of(rt.alloc(), &[52, 53, 32])?;
+        let wanted = [
+            Extent {
+                start: 52,
+                count: 2,
+            },
+            Extent {
+                start: 32,
+                count: 1,
+            },
+        ];
+        assert_eq!(rt; runs.as_slice(), wanted.as_slice());
+        assert_eq!(rt; runs_of(rt.alloc(), &[])?.len(), 0);
+        Ok(())
+    }
+
+    #[test]
+    fn twenty_two_runs_are_too_many(rt: HostRuntime) -> Result<(), Fail> {
+        let blocks = [
+            24, 26, 28, 30, 32, 34, 36, 38, 40, 42, 44, 46, 48, 50, 52, 54, 56, 58, 60, 62, 64, 66,
+        ];
+        let many = runs_of(rt.alloc(), &blocks);
+        assert!(rt; matches!(many, Err(RunsFault::TooManyExtents)));
+        assert_eq!(rt; runs_of(rt.alloc(), &blocks[1..])?.len(), 21);
+        Ok(())
+    }
+
+    #[test]
+    fn written_fork_is_read(rt: HostRuntime) -> Result<(), Fail> {
+        let mut sector = Sector { bytes: [0xee; 512] };
+        write_fork(&[RUN], 0, &mut sector);
+        assert_eq!(rt; &sector.bytes[..176], [0xee; 176].as_slice());
+        assert_eq!(rt;
+            &sector.bytes[176..192],
+            b"\0\0\0\0\0\0\0\0\0\0\0\0\x04\0\0\x03".as_slice()
+        );
+        assert_eq!(rt; &sector.bytes[192..], [0; 320].as_slice());
+        assert_eq!(rt;
+            read_fork(rt.alloc(), &sector, 1, 0)?.as_slice(),
+            [RUN].as_slice()
+        );
+        for (extents, group) in [(0, 0), (2, 0), (1, 1)] {
+            let other = read_fork(rt.alloc(), &sector, extents, group);
+            assert!(rt;
+                matches!(other, Err(ForkFault::Malformed)),
+                "{extents} of group {group}"
+            );
+        }
+        for (at, bits) in [
+            (176, 0x80),
+            (180, 1),
+            (186, 1),
+            (189, 0x10),
+            (192, 1),
+            (511, 1),
+        ] {
+            let mut other = sector;
+            other.bytes[at] ^= bits;
+            let read = read_fork(rt.alloc(), &other, 1, 0);
+            assert!(rt; matches!(read, Err(ForkFault::Malformed)), "byte {at}");
+        }
+        Ok(())
+    }
+}

@@ -1,0 +1,23 @@
+-- Where the inodes of an image stand.
+use Rattle.std.specs.Prelude.{ℕ, ◌+◌, ◌*◌, ◌/◌, ◌%◌, ◌<◌}
+use Rattle.geometry.specs.declared.limits.TheConstants.{GROUP_NUMBERS, BLOCK_SECTORS}
+use Rattle.geometry.specs.declared.shape.Geometry.{Geometry}
+
+-- an inode's group, and its place in the group
+abbrev pub group_of : ℕ → ℕ
+group_of number = number / GROUP_NUMBERS
+
+abbrev pub agino_of : ℕ → ℕ
+agino_of number = number % GROUP_NUMBERS
+
+-- sectors of a group
+abbrev pub group_sectors : Geometry → ℕ
+group_sectors g = g.blocks * BLOCK_SECTORS
+
+-- the number of an inode of the image
+abbrev pub IsNumber : Geometry → ℕ → Type 0
+IsNumber g number = (group_of number < g.groups) × (agino_of number < group_sectors g)
+
+-- An inode stands in the sector of its place in its group, and the groups follow each other.
+abbrev pub place_of : Geometry → ℕ → ℕ
+place_of g number = group_of number * group_sectors g + agino_of number

@@ -1,0 +1,22 @@
+-- The superblock as a sector.
+use Rattle.std.specs.Prelude.{ℕ, List, [], ◌∷◌}
+use Rattle.life_bytes.specs.Pieces.{Row, number, piece, placed, blank, sealed}
+use Rattle.geometry.specs.declared.shape.Geometry.{Geometry}
+
+-- `LIFE` in ASCII
+abbrev pub magic : ℕ
+magic = 0x4C49_4645
+
+abbrev pub superblock : Geometry → List Row
+superblock g =
+    number 0 4 magic
+    ∷ number 4 4 g.version
+    ∷ number 8 4 g.groups
+    ∷ number 12 4 g.blocks
+    ∷ number 16 4 g.ring
+    ∷ piece 24 16 g.uuid
+    ∷ []
+
+-- the sector that spells a geometry: its fields over zeros, and the checksum at byte 40
+unfoldable pub spelling : Geometry → List ℕ
+spelling g = sealed 40 (placed (superblock g) blank)

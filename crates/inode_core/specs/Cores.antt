@@ -1,0 +1,65 @@
+-- The inode core as the front of a sector.
+use Rattle.std.specs.Prelude.{◌≡◌, ◌<◌, ◌≤◌, ◌*◌, ◌^◌, ℕ, List, [], ◌∷◌, ◌++◌, Bool, true, false, drop, if◌then◌else◌}
+use Rattle.geometry.specs.declared.limits.TheConstants.{BLOCK_BYTES, MAX_LINKS, MAX_EXTENTS, MAX_GENERATION, NO_INODE}
+use Rattle.life_bytes.specs.Pieces.{Row, number, piece, placed, zeros, blank, sealed}
+use Rattle.inode_core.specs.declared.shape.Core.{Core}
+
+-- the fields of an inode in use
+pub record IsLive (core : Core) : Type 0 where
+  pub links : core.links ≤ MAX_LINKS
+  pub size : core.size ≡ core.blocks * BLOCK_BYTES
+  pub blocks : core.blocks < 2 ^ 32
+  pub extents : core.extents ≤ MAX_EXTENTS
+  pub generation : (1 ≤ core.generation) × (core.generation < MAX_GENERATION)
+  pub next : core.next ≤ NO_INODE
+
+-- the fields of a free inode
+pub record IsFree (core : Core) : Type 0 where
+  pub links : core.links ≡ 0
+  pub size : core.size ≡ 0
+  pub blocks : core.blocks ≡ 0
+  pub extents : core.extents ≡ 0
+  pub generation : (1 ≤ core.generation) × (core.generation ≤ MAX_GENERATION)
+  pub next : core.next ≡ NO_INODE
+
+-- the fields that a core may have
+pub record IsCore (core : Core) : Type 0 where
+  pub live : core.live ≡ true → IsLive core
+  pub free : core.live ≡ false → IsFree core
+
+-- a regular file that its owner may write and all may read
+abbrev pub mode_of : Bool → ℕ
+mode_of live = if live then 0x81A4 else 0
+
+-- the fork: the bytes of a sector from 176 on
+abbrev pub fork_of : List ℕ → List ℕ
+fork_of bytes = drop 176 bytes
+
+abbrev pub no_fork : List ℕ
+no_fork = zeros 336
+
+abbrev pub fields : Core → ℕ → List ℕ → List Row
+fields core ino uuid =
+    number 0 2 0x494E
+    ∷ number 2 2 (mode_of core.live)
+    ∷ number 4 1 3
+    ∷ number 5 1 2
+    ∷ number 16 4 core.links
+    ∷ number 56 8 core.size
+    ∷ number 64 8 core.blocks
+    ∷ number 76 4 core.extents
+    ∷ number 92 4 core.generation
+    ∷ number 96 4 core.next
+    ∷ number 152 8 ino
+    ∷ piece 160 16 uuid
+    ∷ []
+
+-- the sector that spells a core before a fork, with the checksum at byte 100
+unfoldable pub spelling : Core → ℕ → List ℕ → List ℕ → List ℕ
+spelling core ino uuid fork = sealed 100 (placed (fields core ino uuid ++ (piece 176 336 fork ∷ [])) blank)
+
+-- the sector spells the core, under this number and uuid
+pub record Spells (bytes : List ℕ) (ino : ℕ) (uuid : List ℕ) (core : Core) : Type 0 where
+  pub allowed : IsCore core
+  pub fork : core.live ≡ false → fork_of bytes ≡ no_fork
+  pub sector : bytes ≡ spelling core ino uuid (fork_of bytes)
