@@ -1,0 +1,7 @@
+pub mod OneBit
+pub mod Places
+pub mod Changes
+pub mod Tables
+pub mod Whole
+pub mod Gathering
+pub mod Ordering

@@ -1,0 +1,3 @@
+pub mod Chunks
+pub mod Masks
+pub mod Pages

@@ -1,0 +1,51 @@
+-- A leaf as a page of 4,096 bytes: the block of an inode btree that has no sibling, at level 0.
+use Rattle.std.specs.Prelude.{◌+◌, ℕ, List, [], ◌∷◌, ◌++◌, length, replicate}
+use Rattle.life_bytes.specs.Fields.{field}
+use Rattle.life_bytes.specs.Pieces.{Row, number, piece, placed, sealed}
+use Rattle.inobt_leaf.specs.declared.chunk.ChunkRec.{ChunkRec}
+
+-- `IAB3` in ASCII
+abbrev pub magic : ℕ
+magic = 0x4941_4233
+
+-- what stands in place of a sibling's block where there is none
+abbrev pub no_sibling : ℕ
+no_sibling = 0xFFFF_FFFF
+
+-- the header of a leaf of so many records, of a group, whose first sector has this place in the image; the level and
+-- the lsn are zero
+abbrev pub header : ℕ → ℕ → ℕ → List ℕ → List Row
+header count group at uuid =
+    number 0 4 magic
+    ∷ number 6 2 count
+    ∷ number 8 4 no_sibling
+    ∷ number 12 4 no_sibling
+    ∷ number 16 8 at
+    ∷ piece 32 16 uuid
+    ∷ number 48 4 group
+    ∷ []
+
+-- a chunk's record of 16 bytes
+abbrev pub chunk_rows : ℕ → ChunkRec → List Row
+chunk_rows place chunk =
+    number place 4 chunk.start
+    ∷ number (place + 4) 4 chunk.free
+    ∷ number (place + 8) 8 chunk.mask
+    ∷ []
+
+-- the records from a place on
+abbrev pub records : ℕ → List ChunkRec → List Row
+records place [] = []
+records place (chunk ∷ chunks) = chunk_rows place chunk ++ records (place + 16) chunks
+
+-- a page of zero bytes
+unfoldable pub blank_page : List ℕ
+blank_page = replicate 4096 0
+
+-- the page: its fields over zeros, and the checksum at byte 52
+unfoldable pub spelling : List ChunkRec → ℕ → ℕ → List ℕ → List ℕ
+spelling chunks group at uuid = sealed 52 (placed (header (length chunks) group at uuid ++ records 56 chunks) blank_page)
+
+-- the record that stands at a place
+abbrev pub chunk_at : List ℕ → ℕ → ChunkRec
+chunk_at bytes place = record { start = field 4 place bytes; free = field 4 (place + 4) bytes; mask = field 8 (place + 8) bytes }

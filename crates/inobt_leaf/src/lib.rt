@@ -1,0 +1,21 @@
+//! A leaf of a group's inode btree: its records of chunks, in memory and as a page.
+#![tactic(auto)]
+
+mod chunk;
+mod laws;
+mod leaf;
+mod masks;
+mod reading;
+mod records;
+mod sectors;
+mod writing;
+
+pub use chunk::ChunkRec;
+pub use laws::pages_tell_leaves;
+pub use leaf::{Leaf, LeafFault};
+pub use masks::masks_change_by_one_bit;
+pub use reading::{PageFault, read_page};
+pub use writing::write_page;
+
+#[cfg(test)]
+mod tests;

@@ -1,0 +1,120 @@
+// Reading a leaf's page.
+
+ghost use Rattle.std.specs.Prelude.{◌≡◌, ◌↔◌, ◌+◌, ◌*◌, ◌≤◌, ◌%◌, ℕ, List, IsTrue, length, map, count_ones, IfOk, MatchResult};
+ghost use Rattle.std.specs.List.{range_with_len};
+ghost use Rattle.life_bytes.specs.SectorBytes.{bytes_of};
+ghost use Rattle.inobt_leaf.specs.Chunks.{IsChunk, IsLeaf};
+ghost use Rattle.inobt_leaf.specs.Pages.{spelling, chunk_at};
+ghost use Rattle.inobt_leaf.specs.declared.chunk.ChunkRec.{ChunkRec};
+
+use crate::chunk::ChunkRec;
+use crate::leaf::{LEAF_CHUNKS, Leaf};
+use crate::records::CHUNK_INODES;
+use crate::sectors::gather;
+use crate::writing::{HEADER_BYTES, RECORD_BYTES, spell};
+use life_bytes::{Sector, field_u16, field_u32, field_u64};
+use std::alloc::{AllocError, Global};
+
+/// Why a page was not read.
+#[derive(Clone, Copy, Debug, PartialEq, Eq)]
+pub enum PageFault {
+    /// The page spells no leaf of this place.
+    Malformed,
+    NoMemory,
+}
+
+impl From<AllocError> for PageFault {
+    ghost use Rattle.std.specs.Prelude.{◌≡◌};
+    ghost use Rattle.inobt_leaf.specs.declared.reading.PageFault.TheVariants.{NoMemory};
+
+    ghost from_gives = { λ _ e. e ≡ NoMemory };
+
+    fn from(_: AllocError) -> Self {
+        PageFault::NoMemory
+    }
+}
+
+fn is_chunk(chunk: &ChunkRec) -> bool
+    ensures { IsTrue result ↔ IsChunk chunk.now }
+{
+    chunk.start % CHUNK_INODES == 0 && chunk.free == chunk.mask.count_ones()
+}
+
+/// Whether these are the chunks of a leaf.
+fn is_leaf(chunks: &[ChunkRec]) -> bool
+    requires { length chunks.now ≤ 252 }
+    ensures sound { IsTrue result → IsLeaf chunks.now }
+    ensures complete { IsLeaf chunks.now → IsTrue result }
+{
+    for (index, chunk) in chunks.iter().enumerate() {
+        if !is_chunk(chunk) {
+            return false;
+        }
+        if index > 0 && chunks[index - 1].start >= chunk.start {
+            return false;
+        }
+    }
+    true
+}
+
+fn read_record(bytes: &[u8], place: usize) -> ChunkRec
+    requires { place + 16 ≤ length bytes.now }
+    ensures { result ≡ chunk_at bytes.now place }
+{
+    ChunkRec {
+        start: field_u32(bytes, place),
+        free: field_u32(bytes, place + 4),
+        mask: field_u64(bytes, place + 8),
+    }
+}
+
+fn read_records(alloc: Global, bytes: &[u8], count: usize) -> Result<Vec<ChunkRec>, AllocError>
+    requires { 56 + 16 * count ≤ length bytes.now }
+    ensures { IfOk result (λ chunks. chunks.items ≡ map (λ i. chunk_at bytes.now (56 + 16 * i)) (range_with_len 0 count)) }
+{
+    let mut chunks = Vec::with_capacity(alloc, count)?;
+    for index in 0..count {
+        chunks.push(read_record(bytes, HEADER_BYTES + RECORD_BYTES * index))?;
+    }
+    Ok(chunks)
+}
+
+/// Whether the bytes are the page of these chunks, byte by byte.
+fn is_page_of(chunks: &[ChunkRec], bytes: &[u8], group: u32, at: u64, uuid: &[u8; 16]) -> bool
+    requires { length chunks.now ≤ 252 }
+    ensures sound { IsTrue result → IsLeaf chunks.now × (bytes.now ≡ spelling chunks.now group at uuid.now) }
+    ensures complete { IsLeaf chunks.now → bytes.now ≡ spelling chunks.now group at uuid.now → IsTrue result }
+{
+    is_leaf(chunks) && bytes == spell(chunks, group, at, uuid).as_slice()
+}
+
+/// Reads a leaf with no sibling from the 8 sectors of its page. The page stands at block `block` of the group, and its
+/// first sector is sector `at` of the image; a leaf names the latter alone.
+pub fn read_page(
+    alloc: Global,
+    page: &[Sector],
+    _block: u32,
+    group: u32,
+    at: u64,
+    uuid: &[u8; 16],
+) -> Result<Leaf, PageFault>
+    requires { length page.now ≡ 8 }
+    // What is read is spelled so.
+    ensures found { IfOk result (λ leaf. IsLeaf leaf × (bytes_of page.now ≡ spelling leaf group at uuid.now)) }
+
+    // What is spelled so is read, unless memory runs out; so a page is malformed only where no leaf is spelled so.
+    ensures only { (chunks : List ChunkRec) → IsLeaf chunks → bytes_of page.now ≡ spelling chunks group at uuid.now
+        → MatchResult result (λ leaf. leaf ≡ chunks) (λ fault. fault ≡ PageFault.NoMemory) }
+{
+    let bytes = gather(page);
+    let count = usize::from(field_u16(&bytes, 6));
+    if count > LEAF_CHUNKS {
+        return Err(PageFault::Malformed);
+    }
+    let chunks = read_records(alloc, &bytes, count)?;
+    if is_page_of(&chunks, &bytes, group, at, uuid) {
+        Ok(Leaf::of(chunks))
+    } else {
+        Err(PageFault::Malformed)
+    }
+}

@@ -1,0 +1,91 @@
+// Writing a leaf's page.
+
+ghost use Rattle.std.specs.Prelude.{◌≡◌, ◌+◌, ◌≤◌, length};
+ghost use Rattle.life_bytes.specs.Pieces.{placed};
+ghost use Rattle.life_bytes.specs.SectorBytes.{bytes_of};
+ghost use Rattle.inobt_leaf.specs.Pages.{header, blank_page, chunk_rows, records, spelling};
+
+use crate::chunk::ChunkRec;
+use crate::leaf::Leaf;
+use crate::sectors::{PAGE_BYTES, scatter};
+use life_bytes::{Sector, put_crc, put_u16, put_u32, put_u64};
+
+const MAGIC: u32 = 0x4941_4233;
+
+const NO_SIBLING: u32 = u32::MAX;
+
+/// Where the records begin.
+pub const HEADER_BYTES: usize = 56;
+
+/// How many bytes a record has.
+pub const RECORD_BYTES: usize = 16;
+
+const CRC_AT: usize = 52;
+
+#[tactic(auto, unfolding(crate::specs::Pages::blank_page))]
+fn blank_page() -> [u8; PAGE_BYTES]
+    ensures { result ≡ blank_page }
+{
+    [0; PAGE_BYTES]
+}
+
+fn put_header(bytes: &mut [u8], count: u16, group: u32, at: u64, uuid: &[u8; 16])
+    requires { length bytes.old ≡ 4096 }
+    ensures { bytes.new ≡ placed (header count group at uuid.now) bytes.old }
+{
+    put_u32(bytes, 0, MAGIC);
+    put_u16(bytes, 6, count);
+    put_u32(bytes, 8, NO_SIBLING);
+    put_u32(bytes, 12, NO_SIBLING);
+    put_u64(bytes, 16, at);
+    bytes[32..48].copy_from_slice(uuid);
+    put_u32(bytes, 48, group);
+}
+
+fn put_record(bytes: &mut [u8], place: usize, chunk: &ChunkRec)
+    requires { place + 16 ≤ length bytes.old }
+    ensures { bytes.new ≡ placed (chunk_rows place chunk.now) bytes.old }
+{
+    put_u32(bytes, place, chunk.start);
+    put_u32(bytes, place + 4, chunk.free);
+    put_u64(bytes, place + 8, chunk.mask);
+}
+
+fn put_records(bytes: &mut [u8], chunks: &[ChunkRec])
+    requires long { length bytes.old ≡ 4096 }
+    requires few { length chunks.now ≤ 252 }
+    ensures { bytes.new ≡ placed (records 56 chunks.now) bytes.old }
+{
+    for (index, chunk) in chunks.iter().enumerate() {
+        put_record(bytes, HEADER_BYTES + RECORD_BYTES * index, chunk);
+    }
+}
+
+/// The bytes of the page of a leaf.
+pub fn spell(chunks: &[ChunkRec], group: u32, at: u64, uuid: &[u8; 16]) -> [u8; PAGE_BYTES]
+    requires { length chunks.now ≤ 252 }
+    ensures { result ≡ spelling chunks.now group at uuid.now }
+{
+    let mut bytes = blank_page();
+    put_header(&mut bytes, chunks.len() as u16, group, at, uuid);
+    put_records(&mut bytes, chunks);
+    put_crc(&mut bytes, CRC_AT);
+    bytes
+}
+
+/// Writes a leaf with no sibling over the 8 sectors of its page. The page stands at block `block` of the group, and
+/// its first sector is sector `at` of the image; a leaf names the latter alone.
+pub fn write_page(
+    leaf: &Leaf,
+    _block: u32,
+    group: u32,
+    at: u64,
+    uuid: &[u8; 16],
+    page: &mut [Sector],
+)
+    requires { length page.old ≡ 8 }
+    ensures { bytes_of page.new ≡ spelling leaf.now group at uuid.now }
+{
+    let bytes = spell(leaf.chunks(), group, at, uuid);
+    scatter(&bytes, page);
+}
