@@ -1,0 +1,5 @@
+pub mod Ascending
+pub mod Flags
+pub mod Records
+pub mod Start
+pub mod Thin
