@@ -1,0 +1,79 @@
+-- How a run begins: with a script, and with the disk that stands at a path.
+use Rattle.std.proofs.Common.{◌≡◌, ℕ, Bool, true, false, List, [], ◌∷◌, Option, Some, None, IsTrue, refl, sym, ap, ◌∙◌, subst}
+use Rattle.std.specs.Option.{IfSome}
+use Rattle.std.specs.List.{AllByRecursion}
+use Rattle.life_bytes.specs.declared.sector.Sector.{Sector}
+use Rattle.disk_model.specs.Disk.{Cell, as_read, settled_as}
+use Rattle.disk_model.specs.DiskLaws.{as_read-settled_as}
+use Rattle.life_cli.specs.declared.script.Command.{Command}
+use Rattle.life_cli.specs.declared.types.Said.{Said}
+use Rattle.life_cli.specs.declared.types.MountRecord.{MountRecord}
+use Rattle.life_cli.specs.declared.types.Status.{Status}
+use Rattle.life_cli.specs.declared.types.Status.TheVariants as status
+use Rattle.life_cli.specs.Outcome.{IsScript, Replied, RefusesScript, where_told, image_told, StandsWhereTold, FitWhereTold, GoesOnWhereTold, IsLegalOver, IsLogged}
+use Rattle.life_cli.specs.Script.{commands_of, lines_of}
+use Rattle.life_cli.specs.Story.{unmounted}
+use Rattle.life_cli.specs.Table.{Table}
+use Rattle.life_cli.specs.Thin.{Stands, MountsFit, ring_of}
+
+-- a script has some commands
+some_script : (script : Option (List ℕ)) → (commands : List Command) × IsScript script commands
+some_script None = ([], tt)
+some_script (Some bytes) = (commands_of (lines_of bytes), refl)
+
+-- a run that answered no line answered those before it
+pub Replied-none : (script : Option (List ℕ)) (ended : Status) (said : List Said) (mounts : List MountRecord) → said ≡ [] → mounts ≡ []
+    → (ended ≡ status.Good → ⊥) → Replied script ended said mounts
+Replied-none script ended said mounts no_answer no_mount ill =
+    let some = some_script script in
+    subst (λ (s : List Said). Replied script ended s mounts) (sym no_answer)
+    (subst (λ (m : List MountRecord). Replied script ended [] m) (sym no_mount)
+    (some.0, some.1, (λ good. absurd (ill good)), ([], record { lines = refl; answers = refl; made = refl }, (unmounted, refl, refl))))
+
+-- a script that was refused did not end well
+pub RefusesScript-ill : (script : Option (List ℕ)) (before after : ℕ) (ended : Status) → RefusesScript script before after ended → ended ≡ status.Good → ⊥
+RefusesScript-ill script before after ended refused good = subst (λ (s : Status). RefusesScript script before after s) good refused
+
+AllByRecursion-weaker : {X : Type 0} (P Q : X → Type 0) → ((x : X) → P x → Q x) → (xs : List X) → AllByRecursion P xs → AllByRecursion Q xs
+AllByRecursion-weaker P Q weaker [] all = tt
+AllByRecursion-weaker P Q weaker (x ∷ xs) (one, all) = (weaker x one, AllByRecursion-weaker P Q weaker xs all)
+
+-- the disk that was given reads as the image that stands at the path
+reads_as : (cells : List Cell) (image : List Sector) → cells ≡ settled_as image → as_read cells ≡ image
+reads_as cells image same = ap as_read same ∙ as_read-settled_as image
+
+stands_at : (told : Bool) (cells : List Cell) (at : Option (List Sector)) → (IsTrue told → IfSome at (λ image. cells ≡ settled_as image))
+    → (t : Table) → StandsWhereTold (where_told told (as_read cells)) t → StandsWhereTold (image_told told at) t
+stands_at false cells at given t stands = tt
+stands_at true cells None given t stands = tt
+stands_at true cells (Some image) given t stands = subst (λ (l : List Sector). Stands l t) (reads_as cells image (given refl)) stands
+
+-- so what is legal over what it reads as is legal over that image
+pub legal_at : (told : Bool) (cells : List Cell) (at : Option (List Sector)) → (IsTrue told → IfSome at (λ image. cells ≡ settled_as image))
+    → (mounts : List MountRecord) → AllByRecursion (IsLegalOver (where_told told (as_read cells))) mounts → AllByRecursion (IsLegalOver (image_told told at)) mounts
+legal_at told cells at given mounts all =
+    AllByRecursion-weaker (IsLegalOver (where_told told (as_read cells))) (IsLegalOver (image_told told at))
+    (λ m legal. (legal.0, stands_at told cells at given legal.0 legal.1, legal.2)) mounts all
+
+goes_on_at : (told : Bool) (cells : List Cell) (at : Option (List Sector)) → (IsTrue told → IfSome at (λ image. cells ≡ settled_as image))
+    → (start base : ℕ) → GoesOnWhereTold (where_told told (as_read cells)) start base → GoesOnWhereTold (image_told told at) start base
+goes_on_at false cells at given start base goes = tt
+goes_on_at true cells None given start base goes = tt
+goes_on_at true cells (Some image) given start base goes =
+    subst (λ (l : List Sector). GoesOnWhereTold (Some l) start base) (reads_as cells image (given refl)) goes
+
+-- so is a log that goes on behind it
+pub logged_on : {D : Type 0} (sectors : D → ℕ) (told : Bool) (cells : List Cell) (at : Option (List Sector)) → (IsTrue told → IfSome at (λ image. cells ≡ settled_as image))
+    → (disk : Option D) (mounts : List MountRecord) → IfSome disk (λ d. AllByRecursion (IsLogged (where_told told (as_read cells)) (ring_of (sectors d))) mounts)
+    → IfSome disk (λ d. AllByRecursion (IsLogged (image_told told at) (ring_of (sectors d))) mounts)
+logged_on sectors told cells at given None mounts all = tt
+logged_on sectors told cells at given (Some d) mounts all =
+    AllByRecursion-weaker (IsLogged (where_told told (as_read cells)) (ring_of (sectors d))) (IsLogged (image_told told at) (ring_of (sectors d)))
+    (λ m log. (log.0, goes_on_at told cells at given log.0 m.base log.1, log.2)) mounts all
+
+-- and the answers of mount lines fit it
+pub fit_at : (told : Bool) (cells : List Cell) (at : Option (List Sector)) → (IsTrue told → IfSome at (λ image. cells ≡ settled_as image))
+    → (said : List Said) → FitWhereTold (where_told told (as_read cells)) said → FitWhereTold (image_told told at) said
+fit_at false cells at given said fit = tt
+fit_at true cells None given said fit = tt
+fit_at true cells (Some image) given said fit = subst (λ (l : List Sector). MountsFit l said) (reads_as cells image (given refl)) fit

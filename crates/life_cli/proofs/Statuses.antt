@@ -1,0 +1,127 @@
+-- When each status comes.
+use Rattle.std.proofs.Common.{◌≡◌, ◌≤◌, ◌<◌, inl, inr, ◌++◌, ◌∷◌, [], ℕ, List, Option, None, Some, length, refl, sym, ◌∙◌, subst, arith}
+use Rattle.life_cli.specs.declared.types.Said.{Said}
+use Rattle.life_cli.specs.declared.types.MountRecord.{MountRecord}
+use Rattle.life_cli.specs.declared.types.Status.{Status}
+use Rattle.life_cli.specs.declared.types.Status.TheVariants as status
+use Rattle.std.specs.Option.{MatchOption, IfSome}
+use Rattle.disk_model.specs.Images.{Given, attached}
+use Rattle.life_cli.specs.Outcome.{Caused, Yields, YieldsRead, Replied, EndsAs, WhereTold, IsReadable, IsOutsideAt, FaultsExactly, IsTooLongExactly, most_bytes}
+use Rattle.life_cli.specs.Script.{first_outside, lines_of}
+
+-- the status that was due comes, unless something failed
+widened : (result ended expected : Status) → Yields result ended → ended ≡ expected → YieldsRead result expected
+widened result ended expected (inl e) same = inr (inl (e ∙ same))
+widened result ended expected (inr other) same = inr (inr other)
+
+by_source : (result expected : Status) → Yields result status.SourceFault → YieldsRead result expected
+by_source result expected (inl e) = inl e
+by_source result expected (inr other) = inr (inr other)
+
+by_memory : (result expected : Status) → Yields result status.NoMemory → YieldsRead result expected
+by_memory result expected (inl e) = inr (inr (inr e))
+by_memory result expected (inr other) = inr (inr other)
+
+-- a line outside the grammar is in no readable script
+not_readable : (bytes : List ℕ) (line : ℕ) → IsReadable bytes → IsOutsideAt bytes line → ⊥
+not_readable bytes line readable outside =
+    let none : first_outside 1 (lines_of bytes) ≡ None = readable.inside in
+    let some : first_outside 1 (lines_of bytes) ≡ Some line = outside.outside in
+    cc
+
+due_fault : (bytes : List ℕ) (a b c d : ℕ) (ended result : Status) → EndsAs (Some bytes) a b c d ended → Yields result ended
+    → (line : ℕ) → IsOutsideAt bytes line → YieldsRead result (status.ScriptFault line 0)
+due_fault bytes a b c d status.Good result ends yields line outside = absurd (not_readable bytes line ends outside)
+due_fault bytes a b c d status.Usage result ends yields line outside = absurd ends
+due_fault bytes a b c d (status.ScriptFault other rule) result ends yields line outside =
+    let first : Some other ≡ Some line = sym ends.1.outside ∙ outside.outside in
+    let rule_is : rule ≡ 0 = ends.0 in
+    let same : status.ScriptFault other rule ≡ status.ScriptFault line 0 = cc in
+    widened result (status.ScriptFault other rule) (status.ScriptFault line 0) yields same
+due_fault bytes a b c d status.ScriptTooLong result ends yields line outside =
+    let short : length bytes ≤ most_bytes = outside.short in
+    let long : most_bytes < length bytes = ends in
+    absurd (omega arith)
+due_fault bytes a b c d status.OpenFault result ends yields line outside = absurd (not_readable bytes line ends.1 outside)
+due_fault bytes a b c d status.SourceFault result ends yields line outside = by_source result (status.ScriptFault line 0) yields
+due_fault bytes a b c d status.SinkFault result ends yields line outside = absurd ends
+due_fault bytes a b c d status.NoMemory result ends yields line outside = by_memory result (status.ScriptFault line 0) yields
+
+told_fault : (bytes : List ℕ) (a b c d : ℕ) (ended result : Status) → EndsAs (Some bytes) a b c d ended → Yields result ended
+    → (line rule : ℕ) → result ≡ status.ScriptFault line rule → (rule ≡ 0) × IsOutsideAt bytes line
+told_fault bytes a b c d ended result ends (inl e) line rule is = subst (λ (s : Status). EndsAs (Some bytes) a b c d s) (sym e ∙ is) ends
+told_fault bytes a b c d ended result ends (inr (inl e)) line rule is =
+    let bad : status.SinkFault ≡ status.ScriptFault line rule = sym e ∙ is in
+    absurd cc
+told_fault bytes a b c d ended result ends (inr (inr e)) line rule is =
+    let bad : status.NoMemory ≡ status.ScriptFault line rule = sym e ∙ is in
+    absurd cc
+
+-- a script fault comes exactly where it is due
+pub FaultsExactly-from : (script : Option (List ℕ)) (a b c d : ℕ) (ended result : Status) → EndsAs script a b c d ended → Yields result ended
+    → WhereTold script (λ bytes. FaultsExactly bytes result)
+FaultsExactly-from None a b c d ended result ends yields = tt
+FaultsExactly-from (Some bytes) a b c d ended result ends yields = record {
+  told = told_fault bytes a b c d ended result ends yields;
+  exact = due_fault bytes a b c d ended result ends yields;
+}
+
+due_long : (bytes : List ℕ) (a b c d : ℕ) (ended result : Status) → EndsAs (Some bytes) a b c d ended → Yields result ended
+    → most_bytes < length bytes → YieldsRead result status.ScriptTooLong
+due_long bytes a b c d status.Good result ends yields long =
+    let short : length bytes ≤ most_bytes = ends.short in
+    absurd (omega arith)
+due_long bytes a b c d status.Usage result ends yields long = absurd ends
+due_long bytes a b c d (status.ScriptFault other rule) result ends yields long =
+    let short : length bytes ≤ most_bytes = ends.1.short in
+    absurd (omega arith)
+due_long bytes a b c d status.ScriptTooLong result ends yields long = widened result status.ScriptTooLong status.ScriptTooLong yields refl
+due_long bytes a b c d status.OpenFault result ends yields long =
+    let short : length bytes ≤ most_bytes = ends.1.short in
+    absurd (omega arith)
+due_long bytes a b c d status.SourceFault result ends yields long = by_source result status.ScriptTooLong yields
+due_long bytes a b c d status.SinkFault result ends yields long = absurd ends
+due_long bytes a b c d status.NoMemory result ends yields long = by_memory result status.ScriptTooLong yields
+
+told_long : (bytes : List ℕ) (a b c d : ℕ) (ended result : Status) → EndsAs (Some bytes) a b c d ended → Yields result ended
+    → result ≡ status.ScriptTooLong → most_bytes < length bytes
+told_long bytes a b c d ended result ends (inl e) is = subst (λ (s : Status). EndsAs (Some bytes) a b c d s) (sym e ∙ is) ends
+told_long bytes a b c d ended result ends (inr (inl e)) is =
+    let bad : status.SinkFault ≡ status.ScriptTooLong = sym e ∙ is in
+    absurd cc
+told_long bytes a b c d ended result ends (inr (inr e)) is =
+    let bad : status.NoMemory ≡ status.ScriptTooLong = sym e ∙ is in
+    absurd cc
+
+-- a script is too long exactly where that is due
+pub IsTooLongExactly-from : (script : Option (List ℕ)) (a b c d : ℕ) (ended result : Status) → EndsAs script a b c d ended → Yields result ended
+    → WhereTold script (λ bytes. IsTooLongExactly bytes result)
+IsTooLongExactly-from None a b c d ended result ends yields = tt
+IsTooLongExactly-from (Some bytes) a b c d ended result ends yields = record {
+  told = told_long bytes a b c d ended result ends yields;
+  exact = due_long bytes a b c d ended result ends yields;
+}
+
+well : (result ended : Status) → Yields result ended → result ≡ status.Good → ended ≡ status.Good
+well result ended (inl e) good = sym e ∙ good
+well result ended (inr (inl e)) good =
+    let bad : status.SinkFault ≡ status.Good = sym e ∙ good in
+    absurd cc
+well result ended (inr (inr e)) good =
+    let bad : status.NoMemory ≡ status.Good = sym e ∙ good in
+    absurd cc
+
+-- what was answered stays answered when the output is written
+pub Replied-written : (script : Option (List ℕ)) (ended result : Status) (said said' : List Said) (mounts mounts' : List MountRecord)
+    → Yields result ended → said' ≡ said → mounts' ≡ mounts → Replied script ended said mounts → Replied script result said' mounts'
+Replied-written script ended result said said' mounts mounts' yields same_said same_mounts replied =
+    subst (λ (s : List Said). Replied script result s mounts') (sym same_said)
+    (subst (λ (m : List MountRecord). Replied script result said m) (sym same_mounts)
+    (replied.0, replied.1, (λ good. replied.2 (well result ended yields good)), replied.3))
+
+-- the causes of the answers, where a disk was given
+pub given_causes : {D : Type 0} (faults : D → ℕ) (disk : Option D) (Early : Type 0) (old new : List Given) (path : List ℕ) (said : List Said) (mounts : List MountRecord)
+    → MatchOption disk Early (λ d. (count : ℕ) × (new ≡ old ++ attached path count ∷ []) × Caused count (faults d) said mounts)
+    → IfSome disk (λ d. (at : List ℕ) × ((count : ℕ) × (new ≡ old ++ attached at count ∷ []) × Caused count (faults d) said mounts))
+given_causes faults None Early old new path said mounts given = tt
+given_causes faults (Some d) Early old new path said mounts given = (path, given)

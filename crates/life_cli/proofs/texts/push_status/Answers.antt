@@ -1,0 +1,8 @@
+use Rattle.std.proofs.Common.{rules}
+use Rattle.life_cli.proofs.texts.push_status.Goals as goal
+
+pub returns-in-ScriptFault : goal.returns-in-ScriptFault
+returns-in-ScriptFault c = rw c.in-ScriptFault.is (search rules)
+
+pub returns-in-SourceFault : goal.returns-in-SourceFault
+returns-in-SourceFault c = rw c.in-SourceFault.is c.push_text-in-SourceFault.ensures

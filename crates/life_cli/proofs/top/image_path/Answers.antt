@@ -1,0 +1,23 @@
+use Rattle.std.proofs.Common.{◌≡◌, ◌<◌, ◌≤◌, ℕ, List, [], ◌∷◌, String, Global, length, get_or, map, string_bytes, codes, sym, ap, ◌∙◌, subst, arith}
+use Rattle.std.proofs.lemmas.Slice.Eq.{bytes_eq-Decides}
+use Rattle.life_cli.specs.Outcome.{IsPath}
+use Rattle.life_cli.proofs.top.image_path.Goals as goal
+
+-- a list of two is made of its two elements
+pair_of : {X : Type 0} (xs : List X) (a b : X) → 2 ≤ length xs → length xs < 3 → a ≡ get_or xs 0 a → b ≡ get_or xs 1 b → xs ≡ a ∷ b ∷ []
+pair_of [] a b least most first second = absurd (omega arith)
+pair_of (x ∷ []) a b least most first second = absurd (omega arith)
+pair_of (x ∷ y ∷ []) a b least most first second = cc
+pair_of (x ∷ y ∷ z ∷ xs) a b least most first second = absurd (omega arith)
+
+pub returns-in-len2 : goal.returns-in-len2
+returns-in-len2 c =
+    let words = pair_of c.args.words.now c.form-item.result c.image-item.result c.in-len2.len_at_least c.in-len2.len_below c.form-item.is c.image-item.is in
+    let form : string_bytes c.form-item.result ≡ codes "steps" =
+    sym c.as_str.ensures.value ∙ (bytes_eq-Decides c.as_str.result.now (codes "steps")).0 (sym c.eq.ensures ∙ c.if-eq.true) in
+    let image : string_bytes c.image-item.result ≡ c.as_str-in-len2.result.now = sym c.as_str-in-len2.ensures.value in
+    let same : c.as_str-then-eq.result.now ≡ c.as_str-in-len2.result.now = c.as_str-then-eq.ensures.value ∙ image in (
+      ap (λ (l : List (String Global)). map string_bytes l) words
+          ∙ ap (λ (b : List ℕ). b ∷ string_bytes c.image-item.result ∷ []) form ∙ ap (λ (b : List ℕ). codes "steps" ∷ b ∷ []) image,
+      subst IsPath same (c.is_path.ensures.0 c.if-is_path.true),
+    )

@@ -1,0 +1,197 @@
+-- What a whole run comes to.
+use Rattle.std.specs.Prelude.{◌≡◌, ◌<◌, ◌≤◌, ◌⊎◌, ⊤, ℕ, Bool, true, false, List, [], ◌∷◌, Option, None, Some, String, string_bytes, length, take, flat_map, map, codes}
+use Rattle.std.specs.Io.KnownBytes.{Appends}
+use Rattle.std.specs.declared.alloc.Global.{Global}
+use Rattle.life_bytes.specs.declared.sector.Sector.{Sector}
+use Rattle.life_ports.specs.Faults.{Rose}
+use Rattle.life_cli.specs.Counting.{IsCounting}
+use Rattle.life_cli.specs.Log.{LogState, log_from, LogHistory}
+use Rattle.life_cli.specs.Output.{AppendsPrefix}
+use Rattle.life_cli.specs.Script.{lines_of, commands_of, first_outside}
+use Rattle.life_cli.specs.Story.{Told, IsStory, Answers, AnswerState, unmounted, Causes, FaultState}
+use Rattle.life_cli.specs.Table.{Table, LegalHistory}
+use Rattle.life_cli.specs.Texts.{output_of, status_line}
+use Rattle.thin_image.specs.Replay.{IsThinWith, IsStart, ring_part, next_commit}
+use Rattle.log_record.specs.declared.record.LogRecord.{LogRecord}
+use Rattle.life_cli.specs.Thin.{Stands, MountsFit}
+use Rattle.life_cli.specs.declared.script.Command.{Command}
+use Rattle.life_cli.specs.declared.types.Entry.{Entry}
+use Rattle.life_cli.specs.declared.types.MountRecord.{MountRecord}
+use Rattle.life_cli.specs.declared.types.Said.{Said}
+use Rattle.life_cli.specs.declared.types.Status.{Status}
+use Rattle.life_cli.specs.declared.types.Status.TheVariants as status
+
+-- a path: not empty, and no option
+abbrev pub IsPath : List ℕ → Type 0
+IsPath [] = ⊥
+IsPath (first ∷ rest) = first ≡ 45 → ⊥
+
+-- the words are `steps` and this path
+abbrev pub IsSteps : List (String Global) → List ℕ → Type 0
+IsSteps words path = (map string_bytes words ≡ codes "steps" ∷ path ∷ []) × IsPath path
+
+-- the status is this one, unless the sink failed or memory lacked
+abbrev pub Yields : Status → Status → Type 0
+Yields ended expected = (ended ≡ expected) ⊎ ((ended ≡ status.SinkFault) ⊎ (ended ≡ status.NoMemory))
+
+-- the script has these commands, where the source tells its bytes
+abbrev pub IsScript : Option (List ℕ) → List Command → Type 0
+IsScript None commands = ⊤
+IsScript (Some bytes) commands = commands ≡ commands_of (lines_of bytes)
+
+-- the entries of all mounts
+abbrev pub all_entries : List MountRecord → List Entry
+all_entries mounts = flat_map (λ m. m.entries.items) mounts
+
+-- the one mount that is up after the last line, or none
+abbrev pub IsLast : AnswerState → List MountRecord → Type 0
+IsLast last [] = last ≡ unmounted
+IsLast last (m ∷ []) = last ≡ record { up = true; entries = length m.entries.items }
+IsLast last (m ∷ n ∷ more) = ⊥
+
+-- each of these lines has its answer: where it made a call, the reply of the next entry, which has the line's call
+abbrev pub AnswersAll : List Command → List Said → List MountRecord → Type 0
+AnswersAll commands said mounts =
+    (story : List Told) × IsStory commands said (all_entries mounts) story
+    × ((last : AnswerState) × Answers unmounted story last × IsLast last mounts)
+
+-- the lines of the script were answered in order: all of them where the run ended well
+abbrev pub Replied : Option (List ℕ) → Status → List Said → List MountRecord → Type 0
+Replied script ended said mounts =
+    (commands : List Command) × IsScript script commands × (ended ≡ status.Good → length said ≡ length commands)
+    × AnswersAll (take (length said) commands) said mounts
+
+-- what a kind of disk holds, where such disks tell it
+abbrev pub where_told : Bool → List Sector → Option (List Sector)
+where_told true image = Some image
+where_told false image = None
+
+-- a run that was given a disk ends well, or for want of memory
+abbrev pub IsRunStatus : Status → Type 0
+IsRunStatus ended = (ended ≡ status.Good) ⊎ (ended ≡ status.NoMemory)
+
+-- the image, where it is told, stands for this table
+abbrev pub StandsWhereTold : Option (List Sector) → Table → Type 0
+StandsWhereTold None t = ⊤
+StandsWhereTold (Some image) t = Stands image t
+
+-- the mount's entries are one legal history of the table that the image stands for
+abbrev pub IsLegalOver : Option (List Sector) → MountRecord → Type 0
+IsLegalOver image m = (first : Table) × StandsWhereTold image first × ((last : Table) × LegalHistory first m.entries.items last)
+
+-- a mount line was damaged exactly where the image, if it is told, is not thin
+abbrev pub FitWhereTold : Option (List Sector) → List Said → Type 0
+FitWhereTold None said = ⊤
+FitWhereTold (Some image) said = MountsFit image said
+
+-- where the log of a mount of the image goes on, and the number of the mount's first change, where the image is told
+abbrev pub GoesOnWhereTold : Option (List Sector) → ℕ → ℕ → Type 0
+GoesOnWhereTold None start base = ⊤
+GoesOnWhereTold (Some image) start base =
+    (records : List LogRecord) × IsThinWith image records × IsStart (ring_part image) start × (base ≡ next_commit records)
+
+-- the mount's log, a ring of so many sectors, goes on behind what the image holds, and gives the entries their replies
+abbrev pub IsLogged : Option (List Sector) → ℕ → MountRecord → Type 0
+IsLogged image ring m =
+    (start : ℕ) × GoesOnWhereTold image start m.base
+    × ((last : LogState) × LogHistory ring (log_from start) m.entries.items last × (last.acknowledged ≡ m.acknowledged))
+
+-- a first mount: nothing was kept or freed, and each call began where its entry stands
+pub record IsFirst (m : MountRecord) : Type 0 where
+  pub kept : m.kept ≡ 0
+  pub freed : m.freed ≡ 0
+  pub froms : IsCounting m.froms.items
+  pub each : length m.froms.items ≡ length m.entries.items
+
+-- the answers have their causes in the disk's faults, which were so many before the first line and after the last
+abbrev pub Caused : ℕ → ℕ → List Said → List MountRecord → Type 0
+Caused before after said mounts =
+    (commands : List Command) × ((story : List Told) × IsStory commands said (all_entries mounts) story
+    × ((last : FaultState) × Causes (record { count = before; down = None }) story last × (last.count ≤ after)))
+
+-- what was written: the whole output, or a prefix of it where the sink failed; for want of memory maybe the last line alone
+abbrev pub IsWritten : Option (List ℕ) → Option (List ℕ) → List MountRecord → List Said → Status → Type 0
+IsWritten before after mounts said status.SinkFault =
+    (ended : Status) × (AppendsPrefix before after (output_of mounts said ended) ⊎ AppendsPrefix before after (status_line status.NoMemory))
+IsWritten before after mounts said status.NoMemory =
+    Appends before after (output_of mounts said status.NoMemory) ⊎ Appends before after (status_line status.NoMemory)
+IsWritten before after mounts said status.Good = Appends before after (output_of mounts said status.Good)
+IsWritten before after mounts said status.Usage = Appends before after (output_of mounts said status.Usage)
+IsWritten before after mounts said (status.ScriptFault line rule) = Appends before after (output_of mounts said (status.ScriptFault line rule))
+IsWritten before after mounts said status.ScriptTooLong = Appends before after (output_of mounts said status.ScriptTooLong)
+IsWritten before after mounts said status.OpenFault = Appends before after (output_of mounts said status.OpenFault)
+IsWritten before after mounts said status.SourceFault = Appends before after (output_of mounts said status.SourceFault)
+
+-- what a script holds, where the source tells its bytes
+abbrev pub WhereTold : Option (List ℕ) → (List ℕ → Type 0) → Type 0
+WhereTold None P = ⊤
+WhereTold (Some bytes) P = P bytes
+
+-- the most bytes that a script may have
+abbrev pub most_bytes : ℕ
+most_bytes = 16777216
+
+-- a script within the grammar, and not too long
+pub record IsReadable (bytes : List ℕ) : Type 0 where
+  pub short : length bytes ≤ most_bytes
+  pub inside : first_outside 1 (lines_of bytes) ≡ None
+
+-- a script whose first line outside the grammar is this one
+pub record IsOutsideAt (bytes : List ℕ) (line : ℕ) : Type 0 where
+  pub short : length bytes ≤ most_bytes
+  pub outside : first_outside 1 (lines_of bytes) ≡ Some line
+
+-- why a script was refused, by the source's count of faults before and after
+abbrev pub RefusesScript : Option (List ℕ) → ℕ → ℕ → Status → Type 0
+RefusesScript script before after status.Good = ⊥
+RefusesScript script before after status.Usage = ⊥
+RefusesScript script before after (status.ScriptFault line rule) = (rule ≡ 0) × WhereTold script (λ bytes. IsOutsideAt bytes line)
+RefusesScript script before after status.ScriptTooLong = WhereTold script (λ bytes. most_bytes < length bytes)
+RefusesScript script before after status.OpenFault = ⊥
+RefusesScript script before after status.SourceFault = Rose before after
+RefusesScript script before after status.SinkFault = ⊥
+RefusesScript script before after status.NoMemory = ⊤
+
+-- when each status comes of a run over a path, by the counts of the source and of the images before and after
+abbrev pub EndsAs : Option (List ℕ) → ℕ → ℕ → ℕ → ℕ → Status → Type 0
+EndsAs script source_before source_after images_before images_after status.Good = WhereTold script IsReadable
+EndsAs script source_before source_after images_before images_after status.Usage = ⊥
+EndsAs script source_before source_after images_before images_after (status.ScriptFault line rule) = (rule ≡ 0) × WhereTold script (λ bytes. IsOutsideAt bytes line)
+EndsAs script source_before source_after images_before images_after status.ScriptTooLong = WhereTold script (λ bytes. most_bytes < length bytes)
+EndsAs script source_before source_after images_before images_after status.OpenFault = Rose images_before images_after × WhereTold script IsReadable
+EndsAs script source_before source_after images_before images_after status.SourceFault = Rose source_before source_after
+EndsAs script source_before source_after images_before images_after status.SinkFault = ⊥
+EndsAs script source_before source_after images_before images_after status.NoMemory = ⊤
+
+-- an image that stands at a path, of a kind of disk that tells what it holds
+abbrev pub image_told : Bool → Option (List Sector) → Option (List Sector)
+image_told true image = image
+image_told false image = None
+
+-- what a run leaves that was given no disk
+pub record IsEarly (mounts : List MountRecord) (said : List Said) : Type 0 where
+  pub no_mount : mounts ≡ []
+  pub no_answer : said ≡ []
+
+-- usage comes exactly where the words are in no form
+pub record IsUsage (words : List (String Global)) (ended : Status) : Type 0 where
+  pub told : ended ≡ status.Usage → (path : List ℕ) → IsSteps words path → ⊥
+  pub exact : ((path : List ℕ) → IsSteps words path → ⊥) → Yields ended status.Usage
+
+-- the status is this one, unless the source or the sink failed or memory lacked
+abbrev pub YieldsRead : Status → Status → Type 0
+YieldsRead ended expected = (ended ≡ status.SourceFault) ⊎ Yields ended expected
+
+-- a script fault comes exactly where a line of a script that is not too long is outside the grammar, and names the first
+pub record FaultsExactly (bytes : List ℕ) (ended : Status) : Type 0 where
+  pub told : (line rule : ℕ) → ended ≡ status.ScriptFault line rule → (rule ≡ 0) × IsOutsideAt bytes line
+  pub exact : (line : ℕ) → IsOutsideAt bytes line → YieldsRead ended (status.ScriptFault line 0)
+
+-- a script is too long exactly where it has more bytes than a script may have
+pub record IsTooLongExactly (bytes : List ℕ) (ended : Status) : Type 0 where
+  pub told : ended ≡ status.ScriptTooLong → most_bytes < length bytes
+  pub exact : most_bytes < length bytes → YieldsRead ended status.ScriptTooLong
+
+-- how a run over a script in the grammar may end
+abbrev pub CompletesAs : Status → Type 0
+CompletesAs ended = (ended ≡ status.OpenFault) ⊎ YieldsRead ended status.Good

@@ -1,0 +1,84 @@
+-- What is written of a run: a line for each answer, and one for how it ended.
+use Rattle.std.specs.Prelude.{ℕ, List, [], ◌∷◌, ◌++◌, Option, None, Some, codes, flat_map, slice_get}
+use Rattle.std.specs.Option.{option_and_then}
+use Rattle.std.specs.Fmt.{decimal}
+use Rattle.life_cli.specs.declared.types.Key.{Key}
+use Rattle.life_cli.specs.declared.types.Reply.{Reply}
+use Rattle.life_cli.specs.declared.types.Reply.TheVariants as reply
+use Rattle.life_cli.specs.declared.types.LineReply.{LineReply}
+use Rattle.life_cli.specs.declared.types.LineReply.TheVariants as line
+use Rattle.life_cli.specs.declared.types.Said.{Said}
+use Rattle.life_cli.specs.declared.types.Said.TheVariants.{Of, Line}
+use Rattle.life_cli.specs.declared.types.Event.{Event}
+use Rattle.life_cli.specs.declared.types.Event.TheVariants.{Called}
+use Rattle.life_cli.specs.declared.types.Entry.{Entry}
+use Rattle.life_cli.specs.declared.types.MountRecord.{MountRecord}
+use Rattle.life_cli.specs.declared.types.Status.{Status}
+use Rattle.life_cli.specs.declared.types.Status.TheVariants as status
+
+-- a handle: number.generation
+abbrev pub handle_text : Key → List ℕ
+handle_text key = decimal key.number ++ (codes "." ++ decimal key.generation)
+
+abbrev pub reply_text : Reply → List ℕ
+reply_text (reply.Made key) = codes "ok " ++ handle_text key
+reply_text reply.NoInodes = codes "no inodes"
+reply_text (reply.Covered changes) = codes "ok " ++ decimal changes
+reply_text reply.WriteFault = codes "write fault"
+reply_text reply.FlushFault = codes "flush fault"
+reply_text reply.LogEnd = codes "log end"
+reply_text (reply.Down fault) = codes "down " ++ decimal fault
+
+abbrev pub event_text : Event → List ℕ
+event_text (Called call reply) = reply_text reply
+
+abbrev pub line_reply_text : LineReply → List ℕ
+line_reply_text (line.Mounted kept freed) = codes "ok kept " ++ (decimal kept ++ (codes " freed " ++ decimal freed))
+line_reply_text (line.Damaged rule sector) = codes "damaged rule " ++ (decimal rule ++ (codes " sector " ++ decimal sector))
+line_reply_text line.ReadFault = codes "read fault"
+line_reply_text line.FlushFault = codes "flush fault"
+line_reply_text line.AlreadyMounted = codes "mounted"
+line_reply_text line.NotMounted = codes "not mounted"
+
+-- the entry of a mount, both counted from 0
+abbrev pub entry_at : List MountRecord → ℕ → ℕ → Option Entry
+entry_at mounts mount entry = option_and_then (λ record_of. slice_get record_of.entries.items entry) (slice_get mounts mount)
+
+abbrev pub entry_text : Option Entry → List ℕ
+entry_text None = []
+entry_text (Some entry) = event_text entry.event
+
+-- an answer, without the end of its line
+abbrev pub said_text : List MountRecord → Said → List ℕ
+said_text mounts (Of mount entry) = entry_text (entry_at mounts mount entry)
+said_text mounts (Line actor reply) = line_reply_text reply
+
+-- a line of its own for each answer
+abbrev pub answer_lines : List MountRecord → List Said → List ℕ
+answer_lines mounts said = flat_map (λ one. said_text mounts one ++ (10 ∷ [])) said
+
+-- the last line, where the run did not end well
+abbrev pub status_line : Status → List ℕ
+status_line status.Good = []
+status_line status.Usage = codes "usage: life make, check, steps, load, live, drill" ++ (10 ∷ [])
+status_line (status.ScriptFault line rule) = codes "script fault line " ++ (decimal line ++ (codes " rule " ++ (decimal rule ++ (10 ∷ []))))
+status_line status.ScriptTooLong = codes "script too long" ++ (10 ∷ [])
+status_line status.OpenFault = codes "open fault" ++ (10 ∷ [])
+status_line status.SourceFault = codes "source fault" ++ (10 ∷ [])
+status_line status.SinkFault = []
+status_line status.NoMemory = codes "no memory" ++ (10 ∷ [])
+
+-- all that is written of a run that ended so
+abbrev pub output_of : List MountRecord → List Said → Status → List ℕ
+output_of mounts said ended = answer_lines mounts said ++ status_line ended
+
+-- the exit status of the program, where its run ended so
+abbrev pub exit_status : Status → ℕ
+exit_status status.Good = 0
+exit_status status.Usage = 2
+exit_status (status.ScriptFault line rule) = 3
+exit_status status.ScriptTooLong = 4
+exit_status status.OpenFault = 5
+exit_status status.SourceFault = 6
+exit_status status.SinkFault = 7
+exit_status status.NoMemory = 13

@@ -1,0 +1,114 @@
+// Taking in a script.
+
+ghost use Rattle.std.specs.Prelude.{◌≡◌, ◌≤◌, ◌<◌, ◌+◌, length, IfOk, OnOk, IsErrOf};
+ghost use Rattle.std.specs.Io.KnownBytes.{Consumes, IsAtEnd};
+ghost use Rattle.life_ports.specs.Faults.{NeverFalls, Rose};
+ghost use Rattle.life_cli.specs.Input.{Takes, TakesAtMost, HasAtMost, HasMoreThan};
+ghost use Rattle.life_cli.specs.declared.input.ReadFault.TheVariants.{SourceFault, ScriptTooLong};
+
+use life_ports::{Failed, Source};
+use std::alloc::{AllocError, Global};
+
+/// The most bytes that a script may have.
+pub const MOST_BYTES: usize = 16_777_216;
+
+// The most bytes that one read asks for.
+const PIECE_BYTES: usize = 4096;
+
+/// Why a script was not taken in.
+#[derive(Clone, Copy, Debug, PartialEq, Eq)]
+pub(crate) enum ReadFault {
+    SourceFault,
+    ScriptTooLong,
+    NoMemory,
+}
+
+impl From<Failed> for ReadFault {
+    ghost use Rattle.std.specs.Prelude.{◌≡◌};
+    ghost use Rattle.life_cli.specs.declared.input.ReadFault.TheVariants.{SourceFault};
+
+    ghost from_gives = { λ _ e. e ≡ SourceFault };
+
+    fn from(_: Failed) -> Self {
+        ReadFault::SourceFault
+    }
+}
+
+impl From<AllocError> for ReadFault {
+    ghost use Rattle.std.specs.Prelude.{◌≡◌};
+    ghost use Rattle.life_cli.specs.declared.input.ReadFault.TheVariants.{NoMemory};
+
+    ghost from_gives = { λ _ e. e ≡ NoMemory };
+
+    fn from(_: AllocError) -> Self {
+        ReadFault::NoMemory
+    }
+}
+
+// How many bytes to ask for with so many taken: only with the most that a script may have, one more.
+fn bytes_to_ask(taken: usize) -> usize
+    requires { taken ≤ MOST_BYTES }
+    ensures some { 0 < result }
+    ensures piece { result ≤ PIECE_BYTES }
+    ensures within { taken < MOST_BYTES → taken + result ≤ MOST_BYTES }
+    ensures one_more { taken + result ≤ MOST_BYTES + 1 }
+{
+    if taken < MOST_BYTES {
+        PIECE_BYTES.min(MOST_BYTES - taken)
+    } else {
+        1
+    }
+}
+
+/// Takes the bytes of a source to its end. One byte past the most that a script may have is taken
+/// to see that the script is too long, and none behind it.
+pub(crate) fn read_script<S: Source>(alloc: Global, source: &mut S) -> Result<Vec<u8>, ReadFault>
+    ensures bytes { IfOk result (λ script. Consumes (S.bytes_left source.old) (S.bytes_left source.new) script.items) }
+    ensures end { OnOk result (IsAtEnd (S.bytes_left source.new)) }
+    ensures within { IfOk result (λ script. length script.items ≤ MOST_BYTES) }
+    ensures fits { OnOk result (HasAtMost MOST_BYTES (S.bytes_left source.old)) }
+
+    ensures source_fault { IsErrOf result SourceFault → Rose (S.fault_count source.old) (S.fault_count source.new) }
+    ensures too_long { IsErrOf result ScriptTooLong → Takes (MOST_BYTES + 1) (S.bytes_left source.old) (S.bytes_left source.new) }
+    ensures exceeds { IsErrOf result ScriptTooLong → HasMoreThan MOST_BYTES (S.bytes_left source.old) }
+
+    ensures taken { TakesAtMost (MOST_BYTES + 1) (S.bytes_left source.old) (S.bytes_left source.new) }
+    ensures never_falls { NeverFalls (S.fault_count source.old) (S.fault_count source.new) }
+{
+    let mut script = Vec::new(alloc);
+    let mut piece = [0; PIECE_BYTES];
+    while script.len() <= MOST_BYTES {
+        let ask = bytes_to_ask(script.len());
+        let count = source.read(&mut piece[..ask])?;
+        if count == 0 {
+            return Ok(script);
+        }
+        script.extend_from_slice(&piece[..count])?;
+    }
+    Err(ReadFault::ScriptTooLong)
+}
+
+#[cfg(test)]
+mod tests {
+    use super::*;
+    use life_ports::MemorySource;
+    use std::test::Fail;
+
+    #[test]
+    fn a_script_is_taken_whole_or_a_fault_is_answered(rt: HostRuntime) -> Result<(), Fail> {
+        let alloc = rt.alloc();
+        for (length, fails, want) in [
+            (0, 9, Ok(0)),
+            (10_000, 9, Ok(10_000)),
+            (10_000, 3, Err(ReadFault::SourceFault)),
+            (MOST_BYTES, 9_999, Ok(MOST_BYTES)),
+            (MOST_BYTES + 1, 9_999, Err(ReadFault::ScriptTooLong)),
+        ] {
+            let bytes = vec![in alloc; b'#'; length]?;
+            let mut source = MemorySource::new(bytes, vec![in alloc; fails]?);
+            let answer = read_script(alloc, &mut source).map(|script| script.len());
+            assert_eq!(rt; answer, want, "at {length}");
+        }
+        Ok(())
+    }
+}

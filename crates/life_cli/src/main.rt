@@ -1,0 +1,53 @@
+//! The program `life`: it runs a script over an image.
+//!
+//! `life steps IMAGE` reads a script on standard input, runs its lines over the image, and writes a line for each.
+#![tactic(auto)]
+
+mod file_disk;
+mod input;
+mod inspect;
+mod mount;
+mod output;
+mod runner;
+mod script;
+mod table;
+#[cfg(test)]
+mod tests;
+mod texts;
+mod top;
+mod types;
+
+use file_disk::FileImages;
+use life_ports::{ReaderSource, WriterSink};
+pub use script::Command;
+use std::alloc::Global;
+use std::env::Args;
+use std::process::ExitCode;
+use std::{env, io};
+use texts::exit_code;
+use top::top;
+pub use types::{Call, Ended, Entry, Event, Key, LineReply, MountRecord, Reply, Said, Status};
+
+// The words of the command line behind the program's name. Where they can't be read as a whole there are none.
+fn words_of(alloc: Global, arguments: io::Result<Args<Global>>) -> Vec<String> {
+    let mut words = Vec::new(alloc);
+    let Ok(arguments) = arguments else {
+        return words;
+    };
+    for word in arguments.skip(1) {
+        if words.push(word).is_err() {
+            return Vec::new(alloc);
+        }
+    }
+    words
+}
+
+fn main(rt: HostRuntime) -> ExitCode {
+    let alloc = rt.alloc();
+    let words = words_of(alloc, env::args(&rt));
+    let mut images = FileImages::new(alloc, &rt);
+    let mut source = ReaderSource::new(rt.stdin());
+    let mut sink = WriterSink::new(rt.stdout());
+    let ended = top(alloc, &words, &mut images, &mut source, &mut sink);
+    ExitCode::from(exit_code(&ended.status))
+}

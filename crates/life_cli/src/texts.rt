@@ -1,0 +1,250 @@
+// What is written of a run, and its exit status.
+
+ghost use Rattle.std.specs.Prelude.{◌≡◌, ◌++◌, ◌∷◌, [], IfOk, OnOk, string_bytes};
+ghost use Rattle.life_cli.specs.Texts.{entry_at, entry_text, event_text, exit_status, line_reply_text, output_of, reply_text, said_text, status_line};
+ghost use Rattle.life_cli.specs.declared.types.Status.TheVariants as status;
+
+use crate::types::{Entry, Event, LineReply, MountRecord, Reply, Said, Status};
+use life_ports::NoMemory;
+use std::alloc::{AllocError, Global};
+
+fn push_text(text: &mut String, more: &str) -> Result<(), AllocError>
+    ensures { OnOk result (string_bytes text.new ≡ string_bytes text.old ++ more.now) }
+{
+    text.push_str(more)
+}
+
+fn push_reply(text: &mut String, reply: &Reply) -> Result<(), AllocError>
+    ensures { OnOk result (string_bytes text.new ≡ string_bytes text.old ++ reply_text reply.now) }
+{
+    match *reply {
+        Reply::Made { key } => write!(text, "ok {}.{}", key.number, key.generation),
+        Reply::NoInodes => push_text(text, "no inodes"),
+        Reply::Covered { changes } => write!(text, "ok {changes}"),
+        Reply::WriteFault => push_text(text, "write fault"),
+        Reply::FlushFault => push_text(text, "flush fault"),
+        Reply::LogEnd => push_text(text, "log end"),
+        Reply::Down { fault } => write!(text, "down {fault}"),
+    }
+}
+
+fn push_event(text: &mut String, event: &Event) -> Result<(), AllocError>
+    ensures { OnOk result (string_bytes text.new ≡ string_bytes text.old ++ event_text event.now) }
+{
+    match event {
+        Event::Called { reply, .. } => push_reply(text, reply),
+    }
+}
+
+fn push_line_reply(text: &mut String, reply: &LineReply) -> Result<(), AllocError>
+    ensures { OnOk result (string_bytes text.new ≡ string_bytes text.old ++ line_reply_text reply.now) }
+{
+    match *reply {
+        LineReply::Mounted { kept, freed } => write!(text, "ok kept {kept} freed {freed}"),
+        LineReply::Damaged { rule, sector } => write!(text, "damaged rule {rule} sector {sector}"),
+        LineReply::ReadFault => push_text(text, "read fault"),
+        LineReply::FlushFault => push_text(text, "flush fault"),
+        LineReply::AlreadyMounted => push_text(text, "mounted"),
+        LineReply::NotMounted => push_text(text, "not mounted"),
+    }
+}
+
+fn entry_of(mounts: &[MountRecord], mount: u64, entry: u64) -> Option<Entry>
+    ensures { result ≡ entry_at mounts.now mount entry }
+{
+    let record = mounts.get(mount as usize)?;
+    record.entries.get(entry as usize).copied()
+}
+
+fn push_said(text: &mut String, mounts: &[MountRecord], said: &Said) -> Result<(), AllocError>
+    ensures { OnOk result (string_bytes text.new ≡ string_bytes text.old ++ said_text mounts.now said.now) }
+{
+    match *said {
+        Said::Of { mount, entry } => match entry_of(mounts, mount, entry) {
+            Some(entry) => push_event(text, &entry.event),
+            None => Ok(()),
+        },
+        Said::Line { reply, .. } => push_line_reply(text, &reply),
+    }
+}
+
+fn push_answer(text: &mut String, mounts: &[MountRecord], said: &Said) -> Result<(), AllocError>
+    ensures { OnOk result (string_bytes text.new ≡ string_bytes text.old ++ (said_text mounts.now said.now ++ (10 ∷ []))) }
+{
+    push_said(text, mounts, said)?;
+    push_text(text, "\n")
+}
+
+fn push_status(text: &mut String, ended: &Status) -> Result<(), AllocError>
+    ensures { OnOk result (string_bytes text.new ≡ string_bytes text.old ++ status_line ended.now) }
+{
+    match *ended {
+        Status::Good | Status::SinkFault => Ok(()),
+        Status::Usage => push_text(text, "usage: life make, check, steps, load, live, drill\n"),
+        Status::ScriptFault { line, rule } => {
+            write!(text, "script fault line {line} rule {rule}\n")
+        }
+        Status::ScriptTooLong => push_text(text, "script too long\n"),
+        Status::OpenFault => push_text(text, "open fault\n"),
+        Status::SourceFault => push_text(text, "source fault\n"),
+        Status::NoMemory => push_text(text, no_memory_line()),
+    }
+}
+
+/// What is written of a run that ended so.
+pub(crate) fn print(
+    alloc: Global,
+    mounts: &[MountRecord],
+    said: &[Said],
+    ended: &Status,
+) -> Result<String, NoMemory>
+    ensures { IfOk result (λ text. string_bytes text ≡ output_of mounts.now said.now ended.now) }
+{
+    let mut text = String::new(alloc);
+    for one in said {
+        push_answer(&mut text, mounts, one)?;
+    }
+    push_status(&mut text, ended)?;
+    Ok(text)
+}
+
+/// The line that tells of want of memory, which takes none.
+pub(crate) fn no_memory_line() -> &'static str
+    ensures { result.now ≡ status_line status.NoMemory }
+{
+    "no memory\n"
+}
+
+/// The exit status of the program.
+pub(crate) fn exit_code(ended: &Status) -> u8
+    ensures { result ≡ exit_status ended.now }
+{
+    match ended {
+        Status::Good => 0,
+        Status::Usage => 2,
+        Status::ScriptFault { .. } => 3,
+        Status::ScriptTooLong => 4,
+        Status::OpenFault => 5,
+        Status::SourceFault => 6,
+        Status::SinkFault => 7,
+        Status::NoMemory => 13,
+    }
+}
+
+#[cfg(test)]
+mod tests {
+    use super::*;
+    use crate::types::{Call, Key};
+    use std::test::Fail;
+
+    const KEY: Key = Key {
+        number: 192,
+        generation: 1,
+    };
+
+    #[test]
+    fn each_answer_and_each_status_has_its_text(rt: HostRuntime) -> Result<(), Fail> {
+        let alloc = rt.alloc();
+        for (reply, want) in [
+            (
+                Reply::Made { key: KEY },
+                "ok 192.1\nnot mounted\nsource fault\n",
+            ),
+            (Reply::NoInodes, "no inodes\nnot mounted\nsource fault\n"),
+            (
+                Reply::Covered { changes: 2 },
+                "ok 2\nnot mounted\nsource fault\n",
+            ),
+            (
+                Reply::WriteFault,
+                "write fault\nnot mounted\nsource fault\n",
+            ),
+            (
+                Reply::FlushFault,
+                "flush fault\nnot mounted\nsource fault\n",
+            ),
+            (Reply::LogEnd, "log end\nnot mounted\nsource fault\n"),
+            (
+                Reply::Down { fault: 1 },
+                "down 1\nnot mounted\nsource fault\n",
+            ),
+        ] {
+            let call = Call::Sync;
+            let event = Event::Called { call, reply };
+            let record = MountRecord {
+                base: 1,
+                kept: 0,
+                freed: 0,
+                entries: vec![in alloc; Entry { actor: 0, event }]?,
+                froms: vec![in alloc; 0]?,
+                acknowledged: 0,
+            };
+            let said = [
+                Said::Of { mount: 0, entry: 0 },
+                Said::Line {
+                    actor: None,
+                    reply: LineReply::NotMounted,
+                },
+            ];
+            let text = print(alloc, &[record], &said, &Status::SourceFault)?;
+            assert_eq!(rt; text.as_str(), want);
+        }
+        Ok(())
+    }
+
+    #[test]
+    fn each_line_reply_has_its_text(rt: HostRuntime) -> Result<(), Fail> {
+        let alloc = rt.alloc();
+        for (reply, want) in [
+            (
+                LineReply::Mounted { kept: 1, freed: 0 },
+                "ok kept 1 freed 0\n",
+            ),
+            (
+                LineReply::Damaged {
+                    rule: 7,
+                    sector: 192,
+                },
+                "damaged rule 7 sector 192\n",
+            ),
+            (LineReply::ReadFault, "read fault\n"),
+            (LineReply::FlushFault, "flush fault\n"),
+            (LineReply::AlreadyMounted, "mounted\n"),
+            (LineReply::NotMounted, "not mounted\n"),
+        ] {
+            let said = [Said::Line { actor: None, reply }];
+            let text = print(alloc, &[], &said, &Status::Good)?;
+            assert_eq!(rt; text.as_str(), want);
+        }
+        Ok(())
+    }
+
+    #[test]
+    fn each_status_has_its_line_and_its_exit_status(rt: HostRuntime) -> Result<(), Fail> {
+        let alloc = rt.alloc();
+        for (ended, want, code) in [
+            (Status::Good, "", 0),
+            (
+                Status::Usage,
+                "usage: life make, check, steps, load, live, drill\n",
+                2,
+            ),
+            (
+                Status::ScriptFault { line: 2, rule: 2 },
+                "script fault line 2 rule 2\n",
+                3,
+            ),
+            (Status::ScriptTooLong, "script too long\n", 4),
+            (Status::OpenFault, "open fault\n", 5),
+            (Status::SourceFault, "source fault\n", 6),
+            (Status::SinkFault, "", 7),
+            (Status::NoMemory, "no memory\n", 13),
+        ] {
+            let text = print(alloc, &[], &[], &ended)?;
+            assert_eq!(rt; text.as_str(), want);
+            assert_eq!(rt; exit_code(&ended), code);
+        }
+        assert_eq!(rt; no_memory_line(), "no memory\n");
+        Ok(())
+    }
+}
