@@ -132,3 +132,27 @@ fn an_inode_is_taken_and_given(rt: HostRuntime) -> Result<(), Fail> {
     pages_tell_leaves();
     Ok(())
 }
+
+/// The chunk that holds an inode, looked for chunk by chunk.
+fn plain_find(chunks: &[ChunkRec], agino: u32) -> Option<ChunkRec> {
+    for chunk in chunks {
+        if chunk.start / 64 == agino / 64 {
+            return Some(*chunk);
+        }
+    }
+    None
+}
+
+#[test]
+fn find_agrees_with_a_look_at_each_chunk(rt: HostRuntime) {
+    let mut leaf = Leaf::new(rt.alloc());
+    for place in [9_u32, 0, 3, 12, 4, 7, 1] {
+        let start = 64 * place;
+        assert!(rt; leaf.find(start).is_none());
+        assert_eq!(rt; leaf.add(start), Ok(()), "{start}");
+        for agino in 0..900 {
+            let found = plain_find(leaf.chunks(), agino);
+            assert_eq!(rt; leaf.find(agino), found, "{agino} with {start}");
+        }
+    }
+}
