@@ -3,7 +3,7 @@ use Rattle.std.proofs.Common.{◌≡◌, ◌<◌, ◌+◌, ◌-◌, ◌*◌, ◌
 use Rattle.std.proofs.lemmas.List.{take-take, drop-take, drop-drop, same_lists, get_or_default, set_past}
 use Rattle.std.proofs.lemmas.Bool.{cases_eq, cases_lt}
 use Rattle.byteorder.specs.Endian.{big_bytes}
-use Rattle.geometry.specs.declared.limits.TheConstants.{NO_INODE}
+use Rattle.life_limits.specs.declared.TheConstants.{NO_INODE}
 use Rattle.life_bytes.specs.Fields.{field, with_field, with_piece}
 use Rattle.life_bytes.specs.Pieces.{placed, blank, sealed, number, piece}
 use Rattle.life_bytes.specs.TableLaws.{AreRows, sealed_row, sealed_number, number_at, in_blank, length-table, sealed_again, sealed_again_twice, row_changes, is_aside}

@@ -2,7 +2,7 @@
 use Rattle.std.specs.Prelude.{◌≡◌, ◌≤◌, ◌<◌, ◌^◌, ℕ, List, [], ◌∷◌, length, get_or, slice_set}
 use Rattle.std.specs.List.{flat_map}
 use Rattle.byteorder.specs.Endian.{big_bytes}
-use Rattle.geometry.specs.declared.limits.TheConstants.{FIRST_PAGE_BLOCK, LAST_PAGE_BLOCK, MAX_LEVEL, NO_INODE}
+use Rattle.life_limits.specs.declared.TheConstants.{FIRST_PAGE_BLOCK, LAST_PAGE_BLOCK, MAX_LEVEL, NO_INODE}
 use Rattle.life_bytes.specs.Pieces.{Row, number, piece, placed, blank, sealed}
 use Rattle.ag_header.specs.declared.agi.Agi.{Agi}
 

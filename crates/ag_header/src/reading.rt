@@ -8,8 +8,8 @@ ghost use Rattle.ag_header.specs.Headers.{IsAgi, Spells};
 use crate::agi::Agi;
 use crate::heads::heads_in;
 use crate::writing::write_agi;
-use geometry::{FIRST_PAGE_BLOCK, LAST_PAGE_BLOCK, MAX_LEVEL};
 use life_bytes::{Sector, field_u32};
+use life_limits::{FIRST_PAGE_BLOCK, LAST_PAGE_BLOCK, MAX_LEVEL};
 
 /// The header that the fields give, whatever else the sector holds.
 fn fields_of(sector: &Sector) -> Agi

@@ -1,12 +1,12 @@
 //! Changes of one field, or of two that go together.
 
 ghost use Rattle.std.specs.Prelude.{◌≤◌, ◌<◌};
-ghost use Rattle.geometry.specs.declared.limits.TheConstants.{BUCKETS, FIRST_PAGE_BLOCK, LAST_PAGE_BLOCK, MAX_LEVEL};
+ghost use Rattle.life_limits.specs.declared.TheConstants.{BUCKETS, FIRST_PAGE_BLOCK, LAST_PAGE_BLOCK, MAX_LEVEL};
 ghost use Rattle.ag_header.specs.declared.agi.Agi.{Agi};
 ghost use Rattle.ag_header.specs.Headers.{IsHeader, Spells, with_head, with_counts, with_root};
 
-use geometry::{BUCKETS, FIRST_PAGE_BLOCK, LAST_PAGE_BLOCK, MAX_LEVEL};
 use life_bytes::{Sector, put_crc, put_u32};
+use life_limits::{BUCKETS, FIRST_PAGE_BLOCK, LAST_PAGE_BLOCK, MAX_LEVEL};
 
 /// Sets the head of an unlinked bucket.
 pub fn set_head(sector: &mut Sector, bucket: u32, agino: u32)

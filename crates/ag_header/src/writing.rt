@@ -6,8 +6,8 @@ ghost use Rattle.ag_header.specs.Headers.{Fits, IsAgi, Spells, fields};
 
 use crate::agi::Agi;
 use crate::heads::bytes_of;
-use geometry::NO_INODE;
 use life_bytes::{Sector, put_bytes, put_crc, put_u32};
+use life_limits::NO_INODE;
 
 const MAGIC: u32 = 0x5841_4749;
 

@@ -2,7 +2,7 @@
 use Rattle.std.specs.Prelude.{◌≡◌, ◌≤◌, ◌+◌, ◌-◌, ◌*◌, ◌^◌, ℕ, List, [], ◌∷◌, ◌++◌, length}
 use Rattle.std.specs.List.{AllByRecursion}
 use Rattle.byteorder.specs.Endian.{big_bytes}
-use Rattle.geometry.specs.declared.limits.TheConstants.{FIRST_DATA_BLOCK, MAX_BLOCKS}
+use Rattle.life_limits.specs.declared.TheConstants.{FIRST_DATA_BLOCK, MAX_BLOCKS}
 use Rattle.life_bytes.specs.Pieces.{zeros}
 use Rattle.inode_core.specs.Cores.{fork_of}
 use Rattle.extent_fork.specs.declared.extent.Extent.{Extent}

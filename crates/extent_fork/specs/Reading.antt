@@ -1,6 +1,6 @@
 -- What a record's number gives, and the test of one run.
 use Rattle.std.specs.Prelude.{◌≢◌, ◌/◌, ◌%◌, ◌^◌, ℕ}
-use Rattle.geometry.specs.declared.limits.TheConstants.{MAX_BLOCKS}
+use Rattle.life_limits.specs.declared.TheConstants.{MAX_BLOCKS}
 use Rattle.extent_fork.specs.declared.extent.Extent.{Extent}
 use Rattle.extent_fork.specs.Forks.{IsRun}
 

@@ -10,8 +10,8 @@ ghost use Rattle.extent_fork.specs.Reading.{IsRunAfter, run_in};
 use crate::extent::Extent;
 use crate::fault::ForkFault;
 use crate::writing::write_fork;
-use geometry::{FIRST_DATA_BLOCK, MAX_BLOCKS, MAX_EXTENTS, MAX_GROUPS};
 use life_bytes::{Sector, field_u128};
+use life_limits::{FIRST_DATA_BLOCK, MAX_BLOCKS, MAX_EXTENTS, MAX_GROUPS};
 use std::alloc::Global;
 
 /// The start and the count that the record at an index gives, whatever else it holds.

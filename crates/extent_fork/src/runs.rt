@@ -1,14 +1,14 @@
 //! Blocks as runs.
 
 ghost use Rattle.std.specs.Prelude.{◌≡◌, ◌≤◌, ◌<◌, All, IfOk, OnErr, length};
-ghost use Rattle.geometry.specs.declared.limits.TheConstants.{FIRST_DATA_BLOCK, MAX_BLOCKS, MAX_EXTENTS};
+ghost use Rattle.life_limits.specs.declared.TheConstants.{FIRST_DATA_BLOCK, MAX_BLOCKS, MAX_EXTENTS};
 ghost use Rattle.extent_fork.specs.declared.fault.RunsFault.TheVariants.{TooManyExtents};
 ghost use Rattle.extent_fork.specs.Runs.{runs, AreLongestRuns};
 ghost use Rattle.extent_fork.specs.Forks.{AreRuns};
 
 use crate::extent::Extent;
 use crate::fault::RunsFault;
-use geometry::{MAX_BLOCKS, MAX_EXTENTS};
+use life_limits::{MAX_BLOCKS, MAX_EXTENTS};
 use std::alloc::Global;
 
 /// The longest runs of these blocks, in their order.

@@ -5,8 +5,8 @@ ghost use Rattle.inode_core.specs.Cores.{fork_of};
 ghost use Rattle.extent_fork.specs.Forks.{AreRuns, fork, record_number};
 
 use crate::extent::Extent;
-use geometry::{MAX_BLOCKS, MAX_EXTENTS, MAX_GROUPS};
 use life_bytes::{Sector, put_bytes, put_u128};
+use life_limits::{MAX_BLOCKS, MAX_EXTENTS, MAX_GROUPS};
 
 /// The bytes of a fork.
 const FORK_BYTES: usize = 336;

@@ -2,6 +2,7 @@
 use Rattle.std.specs.Prelude.{◌≡◌, ◌-◌, ◌*◌, ◌+◌, ◌/◌, ◌%◌, ◌<◌, ◌≤◌, ◌==◌, ℕ, Bool, false, List, length, filter, map, count_by, slice_index}
 use Rattle.std.specs.List.{range_with_len}
 use Rattle.std.specs.Int.{bit_at}
+use Rattle.life_limits.specs.declared.TheConstants.{MAX_BLOCKS}
 
 -- whether bit i of a word is set
 abbrev pub is_set : ℕ → ℕ → Bool
@@ -26,6 +27,6 @@ IsFull word k = (i : ℕ) → i < 8 → bit_at word (8 * k + i) ≡ 1
 -- what a map keeps: 256 words; bits at or past the number of blocks are clear, and free counts the set ones
 pub record IsKept (words : List ℕ) (blocks free : ℕ) : Type 0 where
   pub whole : length words ≡ 256
-  pub few : blocks ≤ 16384
+  pub few : blocks ≤ MAX_BLOCKS
   pub clear : (b : ℕ) → blocks ≤ b → has words b ≡ false
   pub count : free ≡ count_by (λ f. f) (blocks_of words blocks)

@@ -4,6 +4,7 @@ ghost use Rattle.std.specs.Prelude.{◌≡◌, ◌≢◌, ◌+◌, ◌*◌, ◌�
 ghost use Rattle.free_map.specs.Blocks.{is_free, free_blocks, IsRun};
 ghost use Rattle.free_map.specs.Bitmap.{read_blocks, bitmap};
 ghost use Rattle.life_bytes.specs.SectorBytes.{bytes_of};
+ghost use Rattle.life_limits.specs.declared.TheConstants.{MAX_BLOCKS};
 
 use crate::stored::{WORDS, clear_past, count_set, load, store};
 use crate::words::{WORD_BLOCKS, clear_bit, full_byte, has_bit, lowest_set, set_bit};
@@ -35,7 +36,7 @@ impl FreeMap {
     /// How many blocks the group has.
     pub fn blocks(&self) -> u32
         ensures count { result ≡ length self.now }
-        ensures few { result ≤ 16384 }
+        ensures few { result ≤ MAX_BLOCKS }
     {
         self.blocks
     }
@@ -108,7 +109,7 @@ impl FreeMap {
 /// tells of block `b`. Bits from `blocks` on are passed over.
 pub fn read_map(sectors: &[Sector], blocks: u32) -> FreeMap
     requires sectors { length sectors.now ≡ 4 }
-    requires blocks { blocks ≤ 16384 }
+    requires blocks { blocks ≤ MAX_BLOCKS }
     ensures { result ≡ read_blocks (bytes_of sectors.now) blocks }
 {
     let mut words = load(sectors);

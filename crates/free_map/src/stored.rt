@@ -7,6 +7,7 @@ ghost use Rattle.life_bytes.specs.Fields.{AreBytes};
 ghost use Rattle.life_bytes.specs.SectorBytes.{bytes_of};
 ghost use Rattle.free_map.specs.Bitmap.{says_free};
 ghost use Rattle.free_map.specs.Words.{has};
+ghost use Rattle.life_limits.specs.declared.TheConstants.{MAX_BLOCKS};
 
 use crate::words::WORD_BLOCKS;
 use byteorder::{ByteOrder, LittleEndian};
@@ -22,7 +23,7 @@ pub const WORDS: usize = 256;
 pub fn load(sectors: &[Sector]) -> [u64; WORDS]
     requires { length sectors.now ≡ 4 }
     ensures whole { length result ≡ 256 }
-    ensures bits { (b : ℕ) → b < 16384 → has result b ≡ says_free (bytes_of sectors.now) b }
+    ensures bits { (b : ℕ) → b < MAX_BLOCKS → has result b ≡ says_free (bytes_of sectors.now) b }
 {
     let mut words = [0; WORDS];
     for (index, sector) in sectors.iter().enumerate() {

@@ -1,6 +1,6 @@
 -- Where the inodes of an image stand.
 use Rattle.std.specs.Prelude.{ℕ, ◌+◌, ◌*◌, ◌/◌, ◌%◌, ◌<◌}
-use Rattle.geometry.specs.declared.limits.TheConstants.{GROUP_NUMBERS, BLOCK_SECTORS}
+use Rattle.life_limits.specs.declared.TheConstants.{GROUP_NUMBERS, BLOCK_SECTORS}
 use Rattle.geometry.specs.declared.shape.Geometry.{Geometry}
 
 -- an inode's group, and its place in the group

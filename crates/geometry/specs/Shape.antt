@@ -1,6 +1,6 @@
 -- Which geometries an image may have.
 use Rattle.std.specs.Prelude.{◌≡◌, ◌≤◌, length}
-use Rattle.geometry.specs.declared.limits.TheConstants.{VERSION, MAX_GROUPS, MIN_BLOCKS, MAX_BLOCKS, MIN_RING, MAX_RING}
+use Rattle.life_limits.specs.declared.TheConstants.{VERSION, MAX_GROUPS, MIN_BLOCKS, MAX_BLOCKS, MIN_RING, MAX_RING}
 use Rattle.geometry.specs.declared.shape.Geometry.{Geometry}
 
 -- the version is known, and the numbers are within the limits

@@ -1,17 +1,10 @@
 //! The shape of an image: its limits, its superblock, and where inodes stand.
 #![tactic(auto)]
 
-mod limits;
 mod places;
 mod shape;
 mod superblock;
 
-pub use limits::{
-    BLOCK_BYTES, BLOCK_SECTORS, BUCKETS, CHUNK_INODES, FIRST_DATA_BLOCK, FIRST_PAGE_BLOCK,
-    GROUP_NUMBERS, LAST_PAGE_BLOCK, MAX_BLOCKS, MAX_CHUNKS, MAX_EXTENTS, MAX_GENERATION,
-    MAX_GROUPS, MAX_IMAGES, MAX_LEVEL, MAX_LINKS, MAX_NUMBERS, MAX_PINS, MAX_RING, MIN_BLOCKS,
-    MIN_RING, NO_INODE, SECTOR_BYTES, VERSION,
-};
 pub use places::{image_sectors, number, sector_of, split, word_at};
 pub use shape::{Damaged, Geometry};
 pub use superblock::{read_super, write_super};

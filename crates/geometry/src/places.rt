@@ -4,8 +4,8 @@ ghost use Rattle.std.specs.Prelude.{◌≡◌, ◌+◌, ◌*◌, ◌<◌, ℕ};
 ghost use Rattle.geometry.specs.Shape.{IsGeometry};
 ghost use Rattle.geometry.specs.Places.{group_of, agino_of, group_sectors, IsNumber, place_of};
 
-use crate::limits::{BLOCK_SECTORS, GROUP_NUMBERS, MAX_GROUPS, MAX_NUMBERS};
 use crate::shape::Geometry;
+use life_limits::{BLOCK_SECTORS, GROUP_NUMBERS, MAX_GROUPS, MAX_NUMBERS};
 
 /// The inode number of a place in a group. `agino` counts the group's sectors.
 pub fn number(group: u32, agino: u32) -> u64

@@ -18,9 +18,9 @@ ghost use Rattle.geometry.specs.declared.shape.Geometry.{Geometry};
 ghost use Rattle.geometry.specs.Shape.{IsGeometry};
 ghost use Rattle.geometry.specs.Superblock.{spelling};
 
-use crate::limits::{MAX_BLOCKS, MAX_GROUPS, MAX_RING, MIN_BLOCKS, MIN_RING, VERSION};
 use crate::shape::{Damaged, Geometry};
 use life_bytes::{Sector, field_u32, put_crc, put_u32};
+use life_limits::{MAX_BLOCKS, MAX_GROUPS, MAX_RING, MIN_BLOCKS, MIN_RING, VERSION};
 
 const MAGIC: u32 = 0x4c49_4645;
 

@@ -5,12 +5,13 @@ ghost use Rattle.inobt_leaf.specs.Chunks.{holds, IsLeaf, after_take, after_give,
 ghost use Rattle.inobt_leaf.specs.Masks.{is_set};
 
 use crate::chunk::ChunkRec;
-use crate::records::{CHUNK_INODES, count_up_to, find_chunk, give_in, take_in};
+use crate::records::{count_up_to, find_chunk, give_in, take_in};
+use life_limits::{CHUNK_INODES, MAX_CHUNKS};
 use std::alloc::{AllocFailed, Global};
 use std::marker::Model;
 
 /// How many chunks a leaf holds.
-pub const LEAF_CHUNKS: usize = 252;
+pub const LEAF_CHUNKS: usize = MAX_CHUNKS as usize;
 
 /// Why a chunk was not added. The leaf is as before.
 #[derive(Clone, Copy, Debug, PartialEq, Eq)]

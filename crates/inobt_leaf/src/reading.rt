@@ -9,10 +9,10 @@ ghost use Rattle.inobt_leaf.specs.declared.chunk.ChunkRec.{ChunkRec};
 
 use crate::chunk::ChunkRec;
 use crate::leaf::{LEAF_CHUNKS, Leaf};
-use crate::records::CHUNK_INODES;
 use crate::sectors::gather;
 use crate::writing::{HEADER_BYTES, RECORD_BYTES, spell};
 use life_bytes::{Sector, field_u16, field_u32, field_u64};
+use life_limits::CHUNK_INODES;
 use std::alloc::{AllocError, Global};
 
 /// Why a page was not read.

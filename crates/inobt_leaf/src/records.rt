@@ -7,9 +7,7 @@ ghost use Rattle.inobt_leaf.specs.declared.chunk.ChunkRec.{ChunkRec};
 
 use crate::chunk::ChunkRec;
 use crate::masks::{cleared, with_set};
-
-/// How many inodes a chunk has.
-pub const CHUNK_INODES: u32 = 64;
+use life_limits::CHUNK_INODES;
 
 /// How many chunks start at or before an inode.
 pub fn count_up_to(chunks: &[ChunkRec], agino: u32) -> usize

@@ -4,11 +4,13 @@ ghost use Rattle.std.specs.Prelude.{◌≡◌, ◌*◌, length};
 ghost use Rattle.life_bytes.specs.SectorBytes.{bytes_of};
 
 use life_bytes::Sector;
+use life_limits::{BLOCK_BYTES, SECTOR_BYTES};
 
-const SECTOR_BYTES: usize = 512;
+/// How many bytes a sector has, as a length.
+const SIZE: usize = SECTOR_BYTES as usize;
 
 /// How many bytes a page has.
-pub const PAGE_BYTES: usize = 4096;
+pub const PAGE_BYTES: usize = BLOCK_BYTES as usize;
 
 /// The bytes of the sectors of a page.
 pub fn gather(page: &[Sector]) -> [u8; PAGE_BYTES]
@@ -17,8 +19,8 @@ pub fn gather(page: &[Sector]) -> [u8; PAGE_BYTES]
 {
     let mut bytes = [0; PAGE_BYTES];
     for (index, sector) in page.iter().enumerate() {
-        let first = SECTOR_BYTES * index;
-        bytes[first..first + SECTOR_BYTES].copy_from_slice(&sector.bytes);
+        let first = SIZE * index;
+        bytes[first..first + SIZE].copy_from_slice(&sector.bytes);
     }
     bytes
 }
@@ -29,9 +31,7 @@ pub fn scatter(bytes: &[u8], page: &mut [Sector])
     ensures { bytes_of page.new ≡ bytes.now }
 {
     for (index, sector) in page.iter_mut().enumerate() {
-        let first = SECTOR_BYTES * index;
-        sector
-            .bytes
-            .copy_from_slice(&bytes[first..first + SECTOR_BYTES]);
+        let first = SIZE * index;
+        sector.bytes.copy_from_slice(&bytes[first..first + SIZE]);
     }
 }

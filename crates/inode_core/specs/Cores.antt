@@ -1,6 +1,6 @@
 -- The inode core as the front of a sector.
 use Rattle.std.specs.Prelude.{◌≡◌, ◌<◌, ◌≤◌, ◌*◌, ◌^◌, ℕ, List, [], ◌∷◌, ◌++◌, Bool, true, false, drop, if◌then◌else◌}
-use Rattle.geometry.specs.declared.limits.TheConstants.{BLOCK_BYTES, MAX_LINKS, MAX_EXTENTS, MAX_GENERATION, NO_INODE}
+use Rattle.life_limits.specs.declared.TheConstants.{BLOCK_BYTES, MAX_LINKS, MAX_EXTENTS, MAX_GENERATION, NO_INODE}
 use Rattle.life_bytes.specs.Pieces.{Row, number, piece, placed, zeros, blank, sealed}
 use Rattle.inode_core.specs.declared.shape.Core.{Core}
 

@@ -7,8 +7,8 @@ ghost use Rattle.inode_core.specs.Cores.{IsCore, Spells, fork_of, no_fork};
 
 use crate::shape::Core;
 use crate::writing::{LIVE_MODE, write_core};
-use geometry::{BLOCK_BYTES, MAX_EXTENTS, MAX_GENERATION, MAX_LINKS, NO_INODE};
 use life_bytes::{Sector, field_u16, field_u32, field_u64};
+use life_limits::{BLOCK_BYTES, MAX_EXTENTS, MAX_GENERATION, MAX_LINKS, NO_INODE};
 
 /// The core that the fields give, whatever else the sector holds.
 fn fields_of(sector: &Sector) -> Core

@@ -10,7 +10,7 @@ mod write;
 pub use image::{Commit, Image, ImageList};
 pub use laws::whole_records;
 pub use read::read_record;
-pub use record::{LogRecord, MAX_IMAGES, record_sectors};
+pub use record::{LogRecord, record_sectors};
 pub use write::{fill_record, record_bytes};
 
 #[cfg(test)]

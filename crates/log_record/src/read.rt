@@ -10,9 +10,10 @@ ghost use Rattle.log_record.specs.Spelling.{FitsImage, header, image_bytes, sect
 ghost use Rattle.log_record.specs.Whole.{IsWholeAt, NoneWholeAt, at_place};
 
 use crate::image::{Image, ImageList};
-use crate::record::{HEADER, IMAGE, LogRecord, MAX_IMAGES, PAYLOAD, STAMPS, record_sectors};
+use crate::record::{HEADER, IMAGE, LogRecord, PAYLOAD, STAMPS, record_sectors};
 use crate::write::{header_bytes, stamp_bytes};
 use life_bytes::{Sector, field_u32, field_u64};
+use life_limits::MAX_IMAGES;
 use life_ports::NoMemory;
 use std::alloc::Global;
 

@@ -4,9 +4,6 @@ ghost use Rattle.log_record.specs.Spelling.{sector_count};
 
 use crate::image::ImageList;
 
-/// The most images of a record, and of a commit.
-pub const MAX_IMAGES: u32 = 128;
-
 /// The bytes of a log sector in front of its payload.
 pub(crate) const STAMPS: usize = 16;
 

@@ -1,4 +1,5 @@
-//! The limits of an image, all in this place.
+//! The limits of an image and of its log, all in this place. They are this project's own, but for the sizes of a sector, an inode, a chunk and the number of unlinked buckets, which are those of XFS version 5.
+#![tactic(auto)]
 
 /// Bytes of a sector, and of an inode.
 pub const SECTOR_BYTES: u32 = 512;
