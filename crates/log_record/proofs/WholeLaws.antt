@@ -21,29 +21,36 @@ pub length-spelled : (item : LogRecord) → length (spelled item) ≡ sector_cou
 unfolding spelled
 length-spelled item = length-map-range_with_len (sector_at item) 0 (count_of item)
 
--- the first parts of the payloads of two records that are whole at a position are the same
-same_first_part : (ring : List Sector) (position : ℕ) (a b : LogRecord) → IsWholeAt ring position a → IsWholeAt ring position b
-    → take 496 (drop (496 * 0) (payload a)) ≡ take 496 (drop (496 * 0) (payload b))
-same_first_part ring position a b isa isb =
-    sym (sector_part a 0) ∙ ap (λ (s : Sector). drop 16 s.bytes) (sym (isa.sectors 0 none (omega arith)) ∙ isb.sectors 0 none (omega arith))
+-- where a record is whole behind the first sector of another, the first parts of their payloads are the same
+same_first_part : (ring : List Sector) (position : ℕ) (a b : LogRecord) → ((d : Sector) → at_place ring (position + 0) d ≡ sector_at a 0)
+    → IsWholeAt ring position b → take 496 (drop (496 * 0) (payload a)) ≡ take 496 (drop (496 * 0) (payload b))
+same_first_part ring position a b first isb =
+    sym (sector_part a 0) ∙ ap (λ (s : Sector). drop 16 s.bytes) (sym (first none) ∙ isb.sectors 0 none (omega arith))
     ∙ sector_part b 0
 
-same_headers : (ring : List Sector) (position : ℕ) (a b : LogRecord) → IsWholeAt ring position a → IsWholeAt ring position b
+same_headers : (ring : List Sector) (position : ℕ) (a b : LogRecord) → IsRecord a → FitsFields a
+    → ((d : Sector) → at_place ring (position + 0) d ≡ sector_at a 0) → IsWholeAt ring position b
     → HasHeader a b.tail b.first b.commits (length b.images)
-same_headers ring position a b isa isb =
+same_headers ring position a b form fits first isb =
     let le : 32 ≤ 496 = omega arith in
     let same : header_of a ≡ header_of b =
     sym (payload_header a) ∙ sym (take-take 32 496 (drop 0 (payload a)) le)
-    ∙ ap (λ (l : List ℕ). take 32 l) (same_first_part ring position a b isa isb)
+    ∙ ap (λ (l : List ℕ). take 32 l) (same_first_part ring position a b first isb)
     ∙ take-take 32 496 (drop 0 (payload b)) le ∙ payload_header b in
     let tail : b.tail < 2 ^ 64 = omega (arith, isb.form.tail, isb.form.positions) in
     let images : length b.images < 2 ^ 32 = omega (arith, isb.form.few) in
-    same_header a b.tail b.first b.commits (length b.images) isa.form isa.fits tail isb.fits.first isb.fits.commits images same
+    same_header a b.tail b.first b.commits (length b.images) form fits tail isb.fits.first isb.fits.commits images same
+
+-- the first sector of a record tells how many images it has
+pub first-counts : (ring : List Sector) (position : ℕ) (a b : LogRecord) → IsRecord a → FitsFields a
+    → ((d : Sector) → at_place ring position d ≡ sector_at a 0) → IsWholeAt ring position b → length a.images ≡ length b.images
+first-counts ring position a b form fits first isb =
+    (same_headers ring position a b form fits (λ d. ap (λ (p : ℕ). at_place ring p d) (omega arith) ∙ first d) isb).images
 
 -- at a position of a ring at most one record is whole
 pub whole-unique : (ring : List Sector) (position : ℕ) (a b : LogRecord) → IsWholeAt ring position a → IsWholeAt ring position b → a ≡ b
 whole-unique ring position a b isa isb =
-    let has = same_headers ring position a b isa isb in
+    let has = same_headers ring position a b isa.form isa.fits (λ d. isa.sectors 0 d (omega arith)) isb in
     let count : count_of a ≡ count_of b = ap (λ (m : ℕ). sector_count m) has.images in
     let payloads : payload a ≡ payload b =
     sym (whole_payload ring position a isa) ∙ ap (λ (k : ℕ). payload_of (window ring position k)) count ∙ whole_payload ring position b isb in

@@ -2,12 +2,13 @@
 ghost use Rattle.std.specs.Prelude.{◌≡◌, ◌≤◌, ◌<◌, ◌+◌, ◌-◌, ℕ, List, length, slice_index_or};
 ghost use Rattle.life_bytes.specs.Fields.{field};
 ghost use Rattle.life_bytes.specs.declared.sector.Sector.{Sector};
-ghost use Rattle.log_record.specs.Spelling.{FitsFields, IsRecord, sector_count, spelled};
+ghost use Rattle.log_record.specs.Spelling.{FitsFields, IsRecord, sector_at, sector_count, spelled};
 ghost use Rattle.log_record.specs.Whole.{IsWholeAt, at_place};
 ghost use Rattle.log_record.specs.declared.record.LogRecord.{LogRecord};
 
 /// Laws of whole records: at most one is whole at a position; what is written in its places is whole; only the
-/// sectors in its places tell; and each of them begins with its own position and its record's.
+/// sectors in its places tell; each of them begins with its own position and its record's; and the first of them
+/// tells how many images there are, so that a record that was written in part is no shorter one.
 pub fn whole_records()
     ensures one { (ring : List Sector) (position : ℕ) (a b : LogRecord)
         → IsWholeAt ring position a → IsWholeAt ring position b → a ≡ b }
@@ -21,4 +22,6 @@ pub fn whole_records()
     ensures stamped { (ring : List Sector) (position i : ℕ) (d : Sector) (item : LogRecord) → IsWholeAt ring position item
         → i < sector_count (length item.images)
         → (field 8 0 (at_place ring (position + i) d).bytes ≡ position + i) × (field 8 8 (at_place ring (position + i) d).bytes ≡ position) }
+    ensures counted { (ring : List Sector) (position : ℕ) (a b : LogRecord) → IsRecord a → FitsFields a
+        → ((d : Sector) → at_place ring position d ≡ sector_at a 0) → IsWholeAt ring position b → length a.images ≡ length b.images }
 {}

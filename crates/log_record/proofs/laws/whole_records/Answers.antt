@@ -1,4 +1,4 @@
-use Rattle.log_record.proofs.WholeLaws.{whole-unique, whole_from_spelled, whole-same_places, whole_field}
+use Rattle.log_record.proofs.WholeLaws.{whole-unique, whole_from_spelled, whole-same_places, whole_field, first-counts}
 use Rattle.log_record.proofs.laws.whole_records.Goals as goal
 
 pub returns-clause-one : goal.returns-clause-one
@@ -12,3 +12,6 @@ returns-clause-places c = whole-same_places
 
 pub returns-clause-stamped : goal.returns-clause-stamped
 returns-clause-stamped c = whole_field
+
+pub returns-clause-counted : goal.returns-clause-counted
+returns-clause-counted c = first-counts
