@@ -1,10 +1,3 @@
-pub mod Calls
-pub mod Endings
-pub mod Founds
-pub mod History
-pub mod Homes
 pub mod Lines
 pub mod Openings
 pub mod Statuses
-pub mod Steps
-pub mod Walks

@@ -5,16 +5,17 @@ use Rattle.std.specs.List.{AllByRecursion}
 use Rattle.life_bytes.specs.declared.sector.Sector.{Sector}
 use Rattle.disk_model.specs.Disk.{Cell, as_read, settled_as}
 use Rattle.disk_model.specs.DiskLaws.{as_read-settled_as}
-use Rattle.life_cli.specs.declared.script.Command.{Command}
-use Rattle.life_cli.specs.declared.types.Said.{Said}
-use Rattle.life_cli.specs.declared.types.MountRecord.{MountRecord}
-use Rattle.life_cli.specs.declared.types.Status.{Status}
-use Rattle.life_cli.specs.declared.types.Status.TheVariants as status
-use Rattle.life_cli.specs.Outcome.{IsScript, Replied, RefusesScript, where_told, image_told, StandsWhereTold, FitWhereTold, GoesOnWhereTold, IsLegalOver, IsLogged}
+use Rattle.thin_run.specs.declared.command.Command.{Command}
+use Rattle.thin_run.specs.declared.types.Said.{Said}
+use Rattle.thin_run.specs.declared.types.MountRecord.{MountRecord}
+use Rattle.thin_run.specs.declared.types.Status.{Status}
+use Rattle.thin_run.specs.declared.types.Status.TheVariants as status
+use Rattle.life_cli.specs.Outcome.{IsScript, Replied, RefusesScript, image_told}
+use Rattle.thin_run.specs.Outcome.{where_told, StandsWhereTold, FitWhereTold, GoesOnWhereTold, IsLegalOver, IsLogged}
 use Rattle.life_cli.specs.Script.{commands_of, lines_of}
-use Rattle.life_cli.specs.Story.{unmounted}
-use Rattle.life_cli.specs.Table.{Table}
-use Rattle.life_cli.specs.Thin.{Stands, MountsFit, ring_of}
+use Rattle.thin_run.specs.Story.{unmounted}
+use Rattle.thin_run.specs.Table.{Table}
+use Rattle.thin_run.specs.Thin.{Stands, MountsFit, ring_of}
 
 -- a script has some commands
 some_script : (script : Option (List ℕ)) → (commands : List Command) × IsScript script commands

@@ -1,12 +1,13 @@
 -- When each status comes.
 use Rattle.std.proofs.Common.{◌≡◌, ◌≤◌, ◌<◌, inl, inr, ◌++◌, ◌∷◌, [], ℕ, List, Option, None, Some, length, refl, sym, ◌∙◌, subst, arith}
-use Rattle.life_cli.specs.declared.types.Said.{Said}
-use Rattle.life_cli.specs.declared.types.MountRecord.{MountRecord}
-use Rattle.life_cli.specs.declared.types.Status.{Status}
-use Rattle.life_cli.specs.declared.types.Status.TheVariants as status
+use Rattle.thin_run.specs.declared.types.Said.{Said}
+use Rattle.thin_run.specs.declared.types.MountRecord.{MountRecord}
+use Rattle.thin_run.specs.declared.types.Status.{Status}
+use Rattle.thin_run.specs.declared.types.Status.TheVariants as status
 use Rattle.std.specs.Option.{MatchOption, IfSome}
 use Rattle.disk_model.specs.Images.{Given, attached}
-use Rattle.life_cli.specs.Outcome.{Caused, Yields, YieldsRead, Replied, EndsAs, WhereTold, IsReadable, IsOutsideAt, FaultsExactly, IsTooLongExactly, most_bytes}
+use Rattle.life_cli.specs.Outcome.{Yields, YieldsRead, Replied, EndsAs, WhereTold, IsReadable, IsOutsideAt, FaultsExactly, IsTooLongExactly, most_bytes}
+use Rattle.thin_run.specs.Outcome.{Caused}
 use Rattle.life_cli.specs.Script.{first_outside, lines_of}
 
 -- the status that was due comes, unless something failed

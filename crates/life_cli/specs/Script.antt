@@ -2,9 +2,9 @@
 use Rattle.std.specs.Prelude.{◌≡◌, ◌==◌, ◌+◌, ◌&&◌, ◌||◌, nat_le, ⊤, ℕ, Bool, true, false, List, [], ◌∷◌, Option, None, Some, if◌then◌else◌, length, take, drop, codes, filter_map}
 use Rattle.std.specs.Str.{bytes_eq}
 use Rattle.std.specs.List.{slice_split, list_all}
-use Rattle.life_cli.specs.declared.types.Call.TheVariants.{Create, Sync}
-use Rattle.life_cli.specs.declared.script.Command.{Command}
-use Rattle.life_cli.specs.declared.script.Command.TheVariants.{Mount, Whole}
+use Rattle.thin_run.specs.declared.types.Call.TheVariants.{Create, Sync}
+use Rattle.thin_run.specs.declared.command.Command.{Command}
+use Rattle.thin_run.specs.declared.command.Command.TheVariants.{Mount, Whole}
 use Rattle.life_cli.specs.declared.script.Reading.{Reading}
 use Rattle.life_cli.specs.declared.script.Reading.TheVariants.{Skipped, Spoken, Outside}
 use Rattle.life_cli.specs.declared.script.ParseFault.{ParseFault}

@@ -2,19 +2,19 @@
 use Rattle.std.specs.Prelude.{ℕ, List, [], ◌∷◌, ◌++◌, Option, None, Some, codes, flat_map, slice_get}
 use Rattle.std.specs.Option.{option_and_then}
 use Rattle.std.specs.Fmt.{decimal}
-use Rattle.life_cli.specs.declared.types.Key.{Key}
-use Rattle.life_cli.specs.declared.types.Reply.{Reply}
-use Rattle.life_cli.specs.declared.types.Reply.TheVariants as reply
-use Rattle.life_cli.specs.declared.types.LineReply.{LineReply}
-use Rattle.life_cli.specs.declared.types.LineReply.TheVariants as line
-use Rattle.life_cli.specs.declared.types.Said.{Said}
-use Rattle.life_cli.specs.declared.types.Said.TheVariants.{Of, Line}
-use Rattle.life_cli.specs.declared.types.Event.{Event}
-use Rattle.life_cli.specs.declared.types.Event.TheVariants.{Called}
-use Rattle.life_cli.specs.declared.types.Entry.{Entry}
-use Rattle.life_cli.specs.declared.types.MountRecord.{MountRecord}
-use Rattle.life_cli.specs.declared.types.Status.{Status}
-use Rattle.life_cli.specs.declared.types.Status.TheVariants as status
+use Rattle.thin_run.specs.declared.types.Key.{Key}
+use Rattle.thin_run.specs.declared.types.Reply.{Reply}
+use Rattle.thin_run.specs.declared.types.Reply.TheVariants as reply
+use Rattle.thin_run.specs.declared.types.LineReply.{LineReply}
+use Rattle.thin_run.specs.declared.types.LineReply.TheVariants as line
+use Rattle.thin_run.specs.declared.types.Said.{Said}
+use Rattle.thin_run.specs.declared.types.Said.TheVariants.{Of, Line}
+use Rattle.thin_run.specs.declared.types.Event.{Event}
+use Rattle.thin_run.specs.declared.types.Event.TheVariants.{Called}
+use Rattle.thin_run.specs.declared.types.Entry.{Entry}
+use Rattle.thin_run.specs.declared.types.MountRecord.{MountRecord}
+use Rattle.thin_run.specs.declared.types.Status.{Status}
+use Rattle.thin_run.specs.declared.types.Status.TheVariants as status
 
 -- a handle: number.generation
 abbrev pub handle_text : Key → List ℕ

@@ -5,28 +5,24 @@
 
 mod file_disk;
 mod input;
-mod inspect;
-mod mount;
 mod output;
-mod runner;
 mod script;
-mod table;
 #[cfg(test)]
 mod tests;
 mod texts;
 mod top;
-mod types;
 
 use file_disk::FileImages;
 use life_ports::{ReaderSource, WriterSink};
-pub use script::Command;
 use std::alloc::Global;
 use std::env::Args;
 use std::process::ExitCode;
 use std::{env, io};
 use texts::exit_code;
+pub use thin_run::{
+    Call, Command, Ended, Entry, Event, Key, LineReply, MountRecord, Reply, Said, Status,
+};
 use top::top;
-pub use types::{Call, Ended, Entry, Event, Key, LineReply, MountRecord, Reply, Said, Status};
 
 // The words of the command line behind the program's name. Where they can't be read as a whole there are none.
 fn words_of(alloc: Global, arguments: io::Result<Args<Global>>) -> Vec<String> {

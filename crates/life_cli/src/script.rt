@@ -5,17 +5,9 @@ ghost use Rattle.std.specs.List.{list_all};
 ghost use Rattle.life_cli.specs.Script as script;
 ghost use Rattle.life_cli.specs.Script.{command_of, reading_of, lines_of, commands_of, first_outside, FaultsAt};
 
-use crate::types::Call;
 use life_ports::NoMemory;
 use std::alloc::{AllocFailed, Global};
-
-/// A line of a script that is neither empty nor a comment.
-#[derive(Clone, Copy, Debug, PartialEq, Eq)]
-pub enum Command {
-    Mount,
-    /// A call by actor A, from its begin to its end.
-    Whole { call: Call },
-}
+use thin_run::{Call, Command};
 
 /// What a line of bytes is.
 #[derive(Clone, Copy)]

@@ -1,11 +1,11 @@
 // Whole runs over disks in memory.
 
 use crate::top::top;
-use crate::types::Status;
 use disk_model::{Blank, FaultDisk, MemoryDisk, MemoryImages};
 use life_ports::{MemorySink, MemorySource};
 use std::alloc::Global;
 use std::test::Fail;
+use thin_run::Status;
 
 type Disks = MemoryImages<FaultDisk<MemoryDisk>>;
 

@@ -2,11 +2,11 @@
 
 ghost use Rattle.std.specs.Prelude.{◌≡◌, ◌++◌, ◌∷◌, [], IfOk, OnOk, string_bytes};
 ghost use Rattle.life_cli.specs.Texts.{entry_at, entry_text, event_text, exit_status, line_reply_text, output_of, reply_text, said_text, status_line};
-ghost use Rattle.life_cli.specs.declared.types.Status.TheVariants as status;
+ghost use Rattle.thin_run.specs.declared.types.Status.TheVariants as status;
 
-use crate::types::{Entry, Event, LineReply, MountRecord, Reply, Said, Status};
 use life_ports::NoMemory;
 use std::alloc::{AllocError, Global};
+use thin_run::{Entry, Event, LineReply, MountRecord, Reply, Said, Status};
 
 fn push_text(text: &mut String, more: &str) -> Result<(), AllocError>
     ensures { OnOk result (string_bytes text.new ≡ string_bytes text.old ++ more.now) }
@@ -134,8 +134,8 @@ pub(crate) fn exit_code(ended: &Status) -> u8
 #[cfg(test)]
 mod tests {
     use super::*;
-    use crate::types::{Call, Key};
     use std::test::Fail;
+    use thin_run::{Call, Key};
 
     const KEY: Key = Key {
         number: 192,

@@ -7,21 +7,20 @@ ghost use Rattle.life_ports.specs.Faults.{Rose};
 ghost use Rattle.disk_model.specs.Disk.{as_read};
 ghost use Rattle.disk_model.specs.Images.{attached};
 ghost use Rattle.life_bytes.specs.declared.sector.Sector.{Sector};
-ghost use Rattle.life_cli.specs.Thin.{ring_of, MountsFit};
-ghost use Rattle.life_cli.specs.Outcome.{IsPath, IsSteps, AnswersAll, IsLegalOver, IsLogged, IsFirst, Caused, FitWhereTold, where_told, IsRunStatus, IsScript, IsReadable, WhereTold, RefusesScript, Replied, EndsAs, image_told, IsEarly, Yields, IsWritten, IsUsage, FaultsExactly, IsTooLongExactly, CompletesAs};
-ghost use Rattle.life_cli.specs.Ending.{stories_of};
-ghost use Rattle.life_cli.specs.declared.types.Status.TheVariants as status;
+ghost use Rattle.thin_run.specs.Thin.{ring_of, MountsFit};
+ghost use Rattle.life_cli.specs.Outcome.{IsPath, IsSteps, IsScript, IsReadable, WhereTold, RefusesScript, Replied, EndsAs, image_told, IsEarly, Yields, IsWritten, IsUsage, FaultsExactly, IsTooLongExactly, CompletesAs};
+ghost use Rattle.thin_run.specs.Outcome.{AnswersAll, IsLegalOver, IsLogged, IsFirst, Caused, FitWhereTold, where_told, IsRunStatus};
+ghost use Rattle.thin_run.specs.Ending.{stories_of};
+ghost use Rattle.thin_run.specs.declared.types.Status.TheVariants as status;
 
 use crate::input::{ReadFault, read_script};
-use crate::mount::{Mount, push_reserved};
 use crate::output::write_whole;
-use crate::runner::{Run, run_lines};
-use crate::script::{Command, ParseFault, parse};
+use crate::script::{ParseFault, parse};
 use crate::texts::{no_memory_line, print};
-use crate::types::{Ended, MountRecord, Status};
-use disk_model::{Disk, Images};
+use disk_model::Images;
 use life_ports::{Failed, NoMemory, Refused, Sink, Source};
 use std::alloc::Global;
+use thin_run::{Command, Ended, Status, run_over};
 
 // A word that is not empty and no option.
 fn is_path(word: &str) -> bool
@@ -57,55 +56,6 @@ fn ended_early<D>(alloc: Global, status: Status) -> Ended<D>
         disk: None,
         mounts: Vec::new(alloc),
         said: Vec::new(alloc),
-    }
-}
-
-/// What a mount tells, where one is up. There is room for it.
-fn stories(mount: Option<Mount>, mounts: &mut Vec<MountRecord>)
-    requires room { vec_len mounts.old < vec_capacity mounts.old }
-    requires empty { mounts.old.items ≡ [] }
-    ensures { mounts.new.items ≡ stories_of mount }
-{
-    if let Some(mount) = mount {
-        push_reserved(mounts, mount.story);
-    }
-}
-
-/// Runs the commands over a disk that was given.
-fn run_over<D: Disk>(alloc: Global, mut disk: D, commands: &[Command]) -> Ended<D>
-    ensures replies { AnswersAll (take (length result.said.items) commands.now) result.said.items result.mounts.items }
-    ensures whole { result.status ≡ status.Good → length result.said.items ≡ length commands.now }
-    ensures legal { AllByRecursion (IsLegalOver (where_told D.told (as_read (D.cells disk)))) result.mounts.items }
-    ensures damaged { FitWhereTold (where_told D.told (as_read (D.cells disk))) result.said.items }
-    ensures log { IfSome result.disk (λ after. AllByRecursion (IsLogged (where_told D.told (as_read (D.cells disk))) (ring_of (D.sector_count after))) result.mounts.items) }
-    ensures first { AllByRecursion IsFirst result.mounts.items }
-    ensures caused { IfSome result.disk (λ after. Caused (D.fault_count disk) (D.fault_count after) result.said.items result.mounts.items) }
-    ensures given_back { IfSome result.disk (λ after. D.sector_count after ≡ D.sector_count disk) }
-    ensures disk { IsSome result.disk }
-    ensures ended { IsRunStatus result.status }
-{
-    let mut mounts = Vec::new(alloc);
-    if mounts.reserve(1).is_err() {
-        return Ended {
-            status: Status::NoMemory,
-            disk: Some(disk),
-            mounts,
-            said: Vec::new(alloc),
-        };
-    }
-    let (run, whole) = run_lines(alloc, &mut disk, commands);
-    let Run { mount, said } = run;
-    stories(mount, &mut mounts);
-    let status = if whole {
-        Status::Good
-    } else {
-        Status::NoMemory
-    };
-    Ended {
-        status,
-        disk: Some(disk),
-        mounts,
-        said,
     }
 }
 
@@ -163,22 +113,21 @@ fn run_steps<I: Images, S: Source>(
     }
 }
 
-impl<D> Ended<D> {
-    fn with_status(self, status: Status) -> Ended<D>
-        ensures { result ≡ record self { status = status } }
-    {
-        let Ended {
-            disk,
-            mounts,
-            said,
-            ..
-        } = self;
-        Ended {
-            status,
-            disk,
-            mounts,
-            said,
-        }
+/// The same run, ended so.
+fn with_status<D>(ended: Ended<D>, status: Status) -> Ended<D>
+    ensures { result ≡ record ended { status = status } }
+{
+    let Ended {
+        disk,
+        mounts,
+        said,
+        ..
+    } = ended;
+    Ended {
+        status,
+        disk,
+        mounts,
+        said,
     }
 }
 
@@ -197,11 +146,11 @@ fn write_out<D, K: Sink>(alloc: Global, ended: Ended<D>, out: &mut K) -> Ended<D
     match print(alloc, &ended.mounts, &ended.said, &ended.status) {
         Ok(text) => match write_whole(out, text.as_bytes()) {
             Ok(()) => ended,
-            Err(Failed) => ended.with_status(Status::SinkFault),
+            Err(Failed) => with_status(ended, Status::SinkFault),
         },
         Err(NoMemory) => match write_whole(out, no_memory_line().as_bytes()) {
-            Ok(()) => ended.with_status(Status::NoMemory),
-            Err(Failed) => ended.with_status(Status::SinkFault),
+            Ok(()) => with_status(ended, Status::NoMemory),
+            Err(Failed) => with_status(ended, Status::SinkFault),
         },
     }
 }

@@ -10,7 +10,7 @@ use log_record::{Image, LogRecord};
 use std::alloc::Global;
 
 /// The least number of sectors of an image: the inodes, and a ring of 8 for the log.
-const LEAST_SECTORS: usize = 72;
+pub const LEAST_SECTORS: usize = 72;
 
 /// The most that the next commit number can be.
 const MOST_COMMITS: u64 = 1 << 62;

@@ -6,10 +6,10 @@ ghost use Rattle.thin_image.specs.Inodes.{AreInodes, IsInode, IsUse, inode_secto
 use life_bytes::{Sector, put_u16, put_u32, put_u64};
 
 /// How many inodes there are.
-pub(crate) const INODES: usize = 64;
+pub const INODES: usize = 64;
 
 /// The number of the first of them.
-const FIRST_NUMBER: u64 = 192;
+pub const FIRST_NUMBER: u64 = 192;
 
 /// The sector of an inode in its first life, with one link: an XFS inode core with its magic, `di_nlink`,
 /// `di_gen` and `di_ino` alone.

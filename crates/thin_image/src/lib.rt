@@ -7,8 +7,8 @@ mod inodes;
 mod laws;
 mod log;
 
-pub use image::{Replayed, replay};
-pub use inodes::new_inode;
+pub use image::{LEAST_SECTORS, Replayed, replay};
+pub use inodes::{FIRST_NUMBER, INODES, new_inode};
 pub use laws::one_log;
 
 #[cfg(test)]

@@ -1,5 +1,5 @@
 use Rattle.std.proofs.Common.{◌≡◌, sym, ◌∙◌}
-use Rattle.life_cli.specs.declared.types.Status.TheVariants as status
+use Rattle.thin_run.specs.declared.types.Status.TheVariants as status
 use Rattle.life_cli.proofs.Openings.{Replied-none}
 use Rattle.life_cli.proofs.Statuses.{FaultsExactly-from, IsTooLongExactly-from, Replied-written, given_causes}
 use Rattle.life_cli.proofs.top.top.Goals as goal

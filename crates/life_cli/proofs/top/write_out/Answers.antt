@@ -1,6 +1,6 @@
 use Rattle.std.proofs.Common.{◌≡◌, ℕ, List, inl, inr, ap, ◌∙◌, subst}
-use Rattle.life_cli.specs.declared.types.MountRecord.{MountRecord}
-use Rattle.life_cli.specs.declared.types.Said.{Said}
+use Rattle.thin_run.specs.declared.types.MountRecord.{MountRecord}
+use Rattle.thin_run.specs.declared.types.Said.{Said}
 use Rattle.life_cli.specs.Output.{AppendsPrefix}
 use Rattle.life_cli.specs.Texts.{output_of}
 use Rattle.life_cli.proofs.top.write_out.Goals as goal

@@ -1,0 +1,78 @@
+-- What a run leaves, once its last line was answered.
+use Rattle.std.proofs.Common.{◌≡◌, ◌≤◌, ℕ, Bool, true, false, List, Option, Some, None, is_some, IsTrue, refl, sym, ap, ◌∙◌, subst}
+use Rattle.std.specs.List.{AllByRecursion}
+use Rattle.std.proofs.lemmas.List.{append-nil}
+use Rattle.life_bytes.specs.declared.sector.Sector.{Sector}
+use Rattle.thin_run.specs.declared.mount.Mount.{Mount}
+use Rattle.thin_run.specs.declared.runner.Run.{Run}
+use Rattle.thin_run.specs.declared.command.Command.{Command}
+use Rattle.thin_run.specs.declared.types.MountRecord.{MountRecord}
+use Rattle.thin_run.specs.Ending.{stories_of}
+use Rattle.thin_run.specs.Outcome.{all_entries, where_told, StandsWhereTold, GoesOnWhereTold, IsLegalOver, IsLogged, IsFirst, Caused}
+use Rattle.thin_run.specs.Run.{FitsDisk, HaveHistory, entries_of, fault_state}
+use Rattle.thin_run.specs.Story.{Told}
+use Rattle.thin_run.specs.Thin.{Origin, Begins, ring_of}
+use Rattle.thin_run.specs.Log.{LogHistory, log_from}
+use Rattle.thin_run.specs.Mount.{log_of}
+use Rattle.thin_run.specs.Walk.{IsWalk}
+
+-- the entries of what the mount tells are the mount's
+pub all_entries-stories_of : (mount : Option Mount) → all_entries (stories_of mount) ≡ entries_of mount
+all_entries-stories_of None = refl
+all_entries-stories_of (Some m) = append-nil m.story.entries.items
+
+stands : (told : Bool) (image : List Sector) (o : Origin) → (IsTrue told → Begins image o) → StandsWhereTold (where_told told image) o.first
+stands true image o begins =
+    let b = begins refl in
+    (b.0, b.1.thin, b.1.rows)
+stands false image o begins = tt
+
+goes_on : (told : Bool) (image : List Sector) (o : Origin) (base : ℕ) → base ≡ o.base → (IsTrue told → Begins image o)
+    → GoesOnWhereTold (where_told told image) o.start base
+goes_on true image o base same begins =
+    let b = begins refl in
+    (b.0, b.1.thin, b.1.start, same ∙ b.1.base)
+goes_on false image o base same begins = tt
+
+-- the entries of the mount that is up are legal from the table that the image stands for
+pub stories_of-legal : (told : Bool) (image : List Sector) (mount : Option Mount)
+    → ((o : Origin) × HaveHistory o mount × (IsTrue told → is_some mount ≡ true → Begins image o))
+    → AllByRecursion (IsLegalOver (where_told told image)) (stories_of mount)
+stories_of-legal told image None origin = tt
+stories_of-legal told image (Some m) (o, has, begins) =
+    ((o.first, stands told image o (λ yes. begins yes refl), (has.legal.0, has.legal.1)), tt)
+
+-- and its log goes on behind what the image holds
+pub stories_of-logged : (told : Bool) (image : List Sector) (sectors : ℕ) (mount : Option Mount) → FitsDisk mount sectors
+    → ((o : Origin) × HaveHistory o mount × (IsTrue told → is_some mount ≡ true → Begins image o))
+    → AllByRecursion (IsLogged (where_told told image) (ring_of sectors)) (stories_of mount)
+stories_of-logged told image sectors None fits origin = tt
+stories_of-logged told image sectors (Some m) fits (o, has, begins) = (
+  (
+    o.start,
+    goes_on told image o m.story.base has.base (λ yes. begins yes refl),
+    (log_of m, subst (λ (ring : ℕ). LogHistory ring (log_from o.start) m.story.entries.items (log_of m)) fits.1 has.log, refl),
+  ),
+  tt,
+)
+
+-- and it is a first mount
+pub stories_of-first : (o : Origin) (mount : Option Mount) → HaveHistory o mount → AllByRecursion IsFirst (stories_of mount)
+stories_of-first o None has = tt
+stories_of-first o (Some m) has = (record { kept = has.kept; freed = has.freed; froms = m.froms_count; each = m.froms_each }, tt)
+
+-- each answer has its cause
+pub IsWalk-caused : (commands : List Command) (before count after : ℕ) (run : Run) (story : List Told) (mounts : List MountRecord) → mounts ≡ stories_of run.mount
+    → IsWalk commands before count run story → count ≤ after → Caused before after run.said.items mounts
+IsWalk-caused commands before count after run story mounts same walk within = (
+  commands,
+  (
+    story,
+    record {
+      lines = walk.told.lines;
+      answers = walk.told.answers;
+      made = walk.told.made ∙ sym (ap all_entries same ∙ all_entries-stories_of run.mount);
+    },
+    (fault_state run.mount count, walk.causes, within),
+  ),
+)

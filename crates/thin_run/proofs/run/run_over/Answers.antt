@@ -1,0 +1,36 @@
+use Rattle.std.proofs.Common.{List, sym, subst, take, length}
+use Rattle.std.specs.List.{AllByRecursion}
+use Rattle.disk_model.specs.Disk.{as_read}
+use Rattle.thin_run.specs.declared.types.MountRecord.{MountRecord}
+use Rattle.thin_run.specs.Thin.{ring_of}
+use Rattle.thin_run.specs.Outcome.{IsLegalOver, IsLogged, IsFirst, where_told}
+use Rattle.thin_run.proofs.Endings.{stories_of-legal, stories_of-logged, stories_of-first, IsWalk-caused}
+use Rattle.thin_run.proofs.run.run_over.Goals as goal
+
+pub returns-clause-legal : goal.returns-clause-legal
+returns-clause-legal g c =
+    let image = as_read (g.D.Disk.cells c.args.disk) in
+    let run = c.run_lines-run.result.0 in
+    subst (λ (mounts : List MountRecord). AllByRecursion (IsLegalOver (where_told g.D.Disk.told image)) mounts) (sym c.stories.ensures)
+    (stories_of-legal g.D.Disk.told image run.mount c.run_lines-run.ensures.over.origin)
+
+pub returns-clause-log : goal.returns-clause-log
+returns-clause-log g c =
+    let image = as_read (g.D.Disk.cells c.args.disk) in
+    let run = c.run_lines-run.result.0 in
+    let sectors = g.D.Disk.sector_count c.run_lines-run.new.disk in
+    subst (λ (mounts : List MountRecord). AllByRecursion (IsLogged (where_told g.D.Disk.told image) (ring_of sectors)) mounts) (sym c.stories.ensures)
+    (stories_of-logged g.D.Disk.told image sectors run.mount c.run_lines-run.ensures.fits c.run_lines-run.ensures.over.origin)
+
+pub returns-clause-first : goal.returns-clause-first
+returns-clause-first g c =
+    let run = c.run_lines-run.result.0 in
+    let origin = c.run_lines-run.ensures.over.origin in
+    subst (λ (mounts : List MountRecord). AllByRecursion IsFirst mounts) (sym c.stories.ensures) (stories_of-first origin.0 run.mount origin.1)
+
+pub returns-clause-caused : goal.returns-clause-caused
+returns-clause-caused g c =
+    let walk = c.run_lines-run.ensures.walk in
+    let run = c.run_lines-run.result.0 in
+    IsWalk-caused (take (length run.said.items) c.args.commands.now) (g.D.Disk.fault_count c.args.disk) walk.1.0 (g.D.Disk.fault_count c.run_lines-run.new.disk)
+    run walk.0 c.stories.new.mounts.items c.stories.ensures walk.1.1 walk.1.2

@@ -1,0 +1,13 @@
+pub mod Counting
+pub mod Ending
+pub mod Fresh
+pub mod InUse
+pub mod Log
+pub mod Mount
+pub mod Outcome
+pub mod Run
+pub mod Steps
+pub mod Story
+pub mod Table
+pub mod Thin
+pub mod Walk

@@ -1,0 +1,80 @@
+-- What the lines of a whole run come to, over the disk that it was given.
+use Rattle.std.specs.Prelude.{◌≡◌, ◌≤◌, ◌⊎◌, ⊤, ℕ, Bool, true, false, List, [], ◌∷◌, Option, None, Some, length, flat_map}
+use Rattle.life_bytes.specs.declared.sector.Sector.{Sector}
+use Rattle.thin_run.specs.Counting.{IsCounting}
+use Rattle.thin_run.specs.Log.{LogState, log_from, LogHistory}
+use Rattle.thin_run.specs.Story.{Told, IsStory, Answers, AnswerState, unmounted, Causes, FaultState}
+use Rattle.thin_run.specs.Table.{Table, LegalHistory}
+use Rattle.thin_image.specs.Replay.{IsThinWith, IsStart, ring_part, next_commit}
+use Rattle.log_record.specs.declared.record.LogRecord.{LogRecord}
+use Rattle.thin_run.specs.Thin.{Stands, MountsFit}
+use Rattle.thin_run.specs.declared.command.Command.{Command}
+use Rattle.thin_run.specs.declared.types.Entry.{Entry}
+use Rattle.thin_run.specs.declared.types.MountRecord.{MountRecord}
+use Rattle.thin_run.specs.declared.types.Said.{Said}
+use Rattle.thin_run.specs.declared.types.Status.{Status}
+use Rattle.thin_run.specs.declared.types.Status.TheVariants as status
+
+-- the entries of all mounts
+abbrev pub all_entries : List MountRecord → List Entry
+all_entries mounts = flat_map (λ m. m.entries.items) mounts
+
+-- the one mount that is up after the last line, or none
+abbrev pub IsLast : AnswerState → List MountRecord → Type 0
+IsLast last [] = last ≡ unmounted
+IsLast last (m ∷ []) = last ≡ record { up = true; entries = length m.entries.items }
+IsLast last (m ∷ n ∷ more) = ⊥
+
+-- each of these lines has its answer: where it made a call, the reply of the next entry, which has the line's call
+abbrev pub AnswersAll : List Command → List Said → List MountRecord → Type 0
+AnswersAll commands said mounts =
+    (story : List Told) × IsStory commands said (all_entries mounts) story
+    × ((last : AnswerState) × Answers unmounted story last × IsLast last mounts)
+
+-- what a kind of disk holds, where such disks tell it
+abbrev pub where_told : Bool → List Sector → Option (List Sector)
+where_told true image = Some image
+where_told false image = None
+
+-- a run that was given a disk ends well, or for want of memory
+abbrev pub IsRunStatus : Status → Type 0
+IsRunStatus ended = (ended ≡ status.Good) ⊎ (ended ≡ status.NoMemory)
+
+-- the image, where it is told, stands for this table
+abbrev pub StandsWhereTold : Option (List Sector) → Table → Type 0
+StandsWhereTold None t = ⊤
+StandsWhereTold (Some image) t = Stands image t
+
+-- the mount's entries are one legal history of the table that the image stands for
+abbrev pub IsLegalOver : Option (List Sector) → MountRecord → Type 0
+IsLegalOver image m = (first : Table) × StandsWhereTold image first × ((last : Table) × LegalHistory first m.entries.items last)
+
+-- a mount line was damaged exactly where the image, if it is told, is not thin
+abbrev pub FitWhereTold : Option (List Sector) → List Said → Type 0
+FitWhereTold None said = ⊤
+FitWhereTold (Some image) said = MountsFit image said
+
+-- where the log of a mount of the image goes on, and the number of the mount's first change, where the image is told
+abbrev pub GoesOnWhereTold : Option (List Sector) → ℕ → ℕ → Type 0
+GoesOnWhereTold None start base = ⊤
+GoesOnWhereTold (Some image) start base =
+    (records : List LogRecord) × IsThinWith image records × IsStart (ring_part image) start × (base ≡ next_commit records)
+
+-- the mount's log, a ring of so many sectors, goes on behind what the image holds, and gives the entries their replies
+abbrev pub IsLogged : Option (List Sector) → ℕ → MountRecord → Type 0
+IsLogged image ring m =
+    (start : ℕ) × GoesOnWhereTold image start m.base
+    × ((last : LogState) × LogHistory ring (log_from start) m.entries.items last × (last.acknowledged ≡ m.acknowledged))
+
+-- a first mount: nothing was kept or freed, and each call began where its entry stands
+pub record IsFirst (m : MountRecord) : Type 0 where
+  pub kept : m.kept ≡ 0
+  pub freed : m.freed ≡ 0
+  pub froms : IsCounting m.froms.items
+  pub each : length m.froms.items ≡ length m.entries.items
+
+-- the answers have their causes in the disk's faults, which were so many before the first line and after the last
+abbrev pub Caused : ℕ → ℕ → List Said → List MountRecord → Type 0
+Caused before after said mounts =
+    (commands : List Command) × ((story : List Told) × IsStory commands said (all_entries mounts) story
+    × ((last : FaultState) × Causes (record { count = before; down = None }) story last × (last.count ≤ after)))

@@ -1,0 +1,14 @@
+//! Runs of whole calls over an image of the first kind: mount, create and sync, over one disk.
+#![tactic(auto)]
+
+mod command;
+mod inspect;
+mod mount;
+mod run;
+mod runner;
+mod table;
+mod types;
+
+pub use command::Command;
+pub use run::run_over;
+pub use types::{Call, Ended, Entry, Event, Key, LineReply, MountRecord, Reply, Said, Status};

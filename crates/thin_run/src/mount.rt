@@ -1,0 +1,223 @@
+// A mount: which inodes are in use, what the log has of them, and what happened.
+
+ghost use Rattle.std.specs.Prelude.{◌≡◌, ◌<◌, ◌≤◌, ◌+◌, ◌^◌, ◌∷◌, ◌++◌, [], ℕ, length, slice_index, vec_len, vec_capacity};
+ghost use Rattle.std.specs.List.Sorted.{IsStrictlyIncreasing};
+ghost use Rattle.thin_run.specs.InUse.{NoneFree};
+ghost use Rattle.thin_run.specs.Counting.{IsCounting};
+
+use crate::table::first_free;
+use crate::types::{Call, Entry, Event, Key, MountRecord, Reply};
+use disk_model::Disk;
+use life_bytes::Sector;
+use life_ports::NoMemory;
+use log_record::{Image, ImageList, LogRecord, record_bytes, record_sectors};
+use std::alloc::Global;
+use thin_image::{FIRST_NUMBER, INODES, new_inode};
+
+/// A mount that is up.
+#[derive(Drop)]
+pub(crate) struct Mount {
+    /// Which inodes are in use.
+    pub in_use: [bool; 64],
+    /// None below this place is free.
+    pub lowest: usize,
+    /// The places of the inodes that were made since the last record, ascending.
+    pub pending: Vec<u64>,
+    /// How many sectors the ring of the log has.
+    pub ring: u64,
+    /// Where in the ring the next record goes.
+    pub place: u64,
+    /// How many changes the mount has made.
+    pub changes: u64,
+    /// The disk's count of faults after the one that took the log down.
+    pub down: Option<u64>,
+    pub story: MountRecord,
+    ghost lowest_within: { lowest ≤ 64 },
+    ghost none_free: { NoneFree in_use lowest },
+    ghost ring_small: { ring ≤ 2 ^ 62 },
+    ghost place_within: { place ≤ ring },
+    ghost base_small: { story.base ≤ 2 ^ 62 },
+    ghost changes_within: { changes ≤ lowest },
+    ghost pending_within: { vec_len pending ≤ changes },
+    ghost pending_ascends: { IsStrictlyIncreasing pending.items },
+    ghost pending_below: { (k : ℕ) → k < length pending.items → slice_index pending.items k < lowest },
+    ghost froms_count: { IsCounting story.froms.items },
+    ghost froms_each: { length story.froms.items ≡ length story.entries.items },
+}
+
+impl Mount {
+    ghost use Rattle.std.specs.Prelude.{◌≡◌, ◌<◌, ◌≤◌, ◌+◌, ◌∷◌, [], ◌++◌, ℕ, None, IfOk, OnOk, OnErr, length, vec_len};
+    ghost use Rattle.log_record.specs.Spelling.{IsRecord, sector_count, spelled};
+    ghost use Rattle.thin_run.specs.declared.types.Entry.{Entry};
+    ghost use Rattle.thin_run.specs.Log.{LogReply, sectors_needed};
+    ghost use Rattle.thin_run.specs.Story.{ReplyCause};
+    ghost use Rattle.thin_run.specs.Mount.{log_of, faults_of, next_record, Creates, IsSyncReply, IsAnswer, IsCall, LeavesStory};
+
+    /// Makes an inode, the first that is free.
+    fn create(&mut self) -> Result<Reply, NoMemory>
+        ensures creates { IfOk result (λ reply. Creates self.old.in_use reply self.new.in_use) }
+        ensures log { IfOk result (λ reply. LogReply self.old.ring (log_of self.old) reply (log_of self.new)) }
+        ensures ring { self.new.ring ≡ self.old.ring }
+        ensures down { self.new.down ≡ self.old.down }
+        ensures story { self.new.story ≡ self.old.story }
+        ensures err { OnErr result (LeavesStory self.old self.new) }
+    {
+        match first_free(&self.in_use, self.lowest) {
+            None => Ok(Reply::NoInodes),
+            Some(place) => {
+                self.pending.push(place as u64)?;
+                self.in_use[place] = true;
+                self.lowest = place + 1;
+                self.changes += 1;
+                let number = FIRST_NUMBER + place as u64;
+                Ok(Reply::Made {
+                    key: Key {
+                        number,
+                        generation: 1,
+                    },
+                })
+            }
+        }
+    }
+
+    /// The record of all that is pending.
+    fn next_record(&self, alloc: Global) -> Result<LogRecord, NoMemory>
+        ensures value { IfOk result (λ item. item ≡ next_record self.now) }
+        ensures form { IfOk result IsRecord }
+    {
+        let mut images = ImageList::new(alloc);
+        for home in &self.pending {
+            images.push(Image {
+                home: *home,
+                sector: new_inode(FIRST_NUMBER + *home),
+            })?;
+        }
+        let count = self.pending.len() as u64;
+        Ok(LogRecord {
+            position: self.ring + self.place,
+            tail: self.ring,
+            first: self.story.base + (self.changes - count),
+            commits: count as u32,
+            images,
+        })
+    }
+
+    /// Puts what is pending on the disk, by one record, one write and one flush. Where nothing is pending
+    /// it makes no call of the disk.
+    fn sync<D: Disk>(&mut self, alloc: Global, disk: &mut D) -> Result<Reply, NoMemory>
+        requires { 64 + self.old.ring ≤ D.sector_count disk.old }
+        ensures syncs { IfOk result IsSyncReply }
+        ensures log { IfOk result (λ reply. LogReply self.old.ring (log_of self.old) reply (log_of self.new)) }
+        ensures cause { IfOk result (λ reply. ReplyCause (faults_of self.old (D.fault_count disk.old)) reply
+            (faults_of self.new (D.fault_count disk.new))) }
+        ensures story { self.new.story ≡ record self.old.story { acknowledged = self.new.story.acknowledged } }
+        ensures in_use { self.new.in_use ≡ self.old.in_use }
+        ensures ring { self.new.ring ≡ self.old.ring }
+        ensures sectors { D.sector_count disk.new ≡ D.sector_count disk.old }
+        ensures err { OnErr result (self.new ≡ self.old) }
+        ensures disk { OnErr result (disk.new ≡ disk.old) }
+    {
+        if let Some(fault) = self.down {
+            return Ok(Reply::Down { fault });
+        }
+        let needed = self.sectors_needed();
+        if needed > self.ring - self.place {
+            return Ok(Reply::LogEnd);
+        }
+        if needed > 0 {
+            let sectors = self.spell_record(alloc)?;
+            if disk.write(INODES as u64 + self.place, &sectors).is_err() {
+                self.down = Some(disk.faults());
+                return Ok(Reply::WriteFault);
+            }
+            if disk.flush().is_err() {
+                self.down = Some(disk.faults());
+                return Ok(Reply::FlushFault);
+            }
+        }
+        self.place += needed;
+        self.pending.clear();
+        self.story.acknowledged = self.changes;
+        Ok(Reply::Covered {
+            changes: self.changes,
+        })
+    }
+
+    /// The sectors of the record of all that is pending.
+    fn spell_record(&self, alloc: Global) -> Result<Vec<Sector>, NoMemory>
+        ensures spelled { IfOk result (λ sectors. sectors.items ≡ spelled (next_record self.now)) }
+        ensures count { IfOk result (λ sectors. length sectors.items ≡ sector_count (vec_len self.now.pending)) }
+    {
+        let item = self.next_record(alloc)?;
+        record_bytes(alloc, &item)
+    }
+
+    /// How many sectors the record of what is pending has: none where nothing is pending.
+    fn sectors_needed(&self) -> u64
+        ensures value { result ≡ sectors_needed (log_of self.now) }
+        ensures few { result ≤ 69 }
+    {
+        if self.pending.is_empty() {
+            0
+        } else {
+            u64::from(record_sectors(self.pending.len() as u32))
+        }
+    }
+
+    fn answer<D: Disk>(
+        &mut self,
+        alloc: Global,
+        disk: &mut D,
+        call: Call,
+    ) -> Result<Reply, NoMemory>
+        requires { 64 + self.old.ring ≤ D.sector_count disk.old }
+        ensures answers { IfOk result (λ reply. IsAnswer call self.old self.new (D.fault_count disk.old) (D.fault_count disk.new) reply) }
+        ensures story { self.new.story ≡ record self.old.story { acknowledged = self.new.story.acknowledged } }
+        ensures err { OnErr result (LeavesStory self.old self.new) }
+        ensures disk { OnErr result (disk.new ≡ disk.old) }
+        ensures ring { self.new.ring ≡ self.old.ring }
+        ensures sectors { D.sector_count disk.new ≡ D.sector_count disk.old }
+    {
+        match call {
+            Call::Create { .. } => self.create(),
+            Call::Sync => self.sync(alloc, disk),
+        }
+    }
+
+    /// Makes a whole call by actor A, and notes it. Where memory lacks, no call was made.
+    pub(crate) fn call<D: Disk>(
+        &mut self,
+        alloc: Global,
+        disk: &mut D,
+        call: Call,
+    ) -> Result<(), NoMemory>
+        requires { 64 + self.old.ring ≤ D.sector_count disk.old }
+        ensures noted { OnOk result ((entry : Entry) × IsCall call self.old self.new (D.fault_count disk.old) (D.fault_count disk.new) entry) }
+        ensures unnoted { OnErr result (LeavesStory self.old self.new) }
+        ensures disk { OnErr result (disk.new ≡ disk.old) }
+        ensures ring { self.new.ring ≡ self.old.ring }
+        ensures sectors { D.sector_count disk.new ≡ D.sector_count disk.old }
+    {
+        self.story.entries.reserve(1)?;
+        self.story.froms.reserve(1)?;
+        let reply = self.answer(alloc, disk, call)?;
+        let from = self.story.entries.len() as u64;
+        push_reserved(
+            &mut self.story.entries,
+            Entry {
+                actor: 0,
+                event: Event::Called { call, reply },
+            },
+        );
+        push_reserved(&mut self.story.froms, from);
+        Ok(())
+    }
+}
+
+// Adds an item for which room was made.
+pub(crate) fn push_reserved<T: Drop>(items: &mut Vec<T>, item: T)
+    requires { vec_len items.old < vec_capacity items.old }
+    ensures { items.new.items ≡ items.old.items ++ item ∷ [] }
+{
+    let _ = items.push(item);
+}
