@@ -10,7 +10,7 @@ first_byte : (number : ℕ) → get_or (inode_sector number).bytes 0 0 ≡ 73
 unfolding inode_sector
 first_byte number = refl
 
-inode-nonzero : (number : ℕ) → inode_sector number ≡ zero_sector → ⊥
+pub inode-nonzero : (number : ℕ) → inode_sector number ≡ zero_sector → ⊥
 inode-nonzero number e =
     let same : get_or (inode_sector number).bytes 0 0 ≡ 0 = ap (λ (s : Sector). get_or s.bytes 0 0) e in
     omega (arith, first_byte number)

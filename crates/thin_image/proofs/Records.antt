@@ -10,7 +10,7 @@ use Rattle.thin_image.specs.Replay.{IsLogged, IsLogUpTo}
 use Rattle.thin_image.proofs.Ascending.{same_elements}
 
 -- a list's element is one that Contains says
-all_contained : (ring : List Sector) (end : ℕ) (records : List LogRecord) (item : LogRecord) → All (IsLogged ring end) records
+pub all_contained : (ring : List Sector) (end : ℕ) (records : List LogRecord) (item : LogRecord) → All (IsLogged ring end) records
     → Contains records item → IsLogged ring end item
 all_contained ring end records item each h = subst (λ (z : LogRecord). IsLogged ring end z) h.2 (each (h.0) item h.1)
 

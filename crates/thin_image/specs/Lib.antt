@@ -1,2 +1,3 @@
 pub mod Inodes
+pub mod NextRecord
 pub mod Replay

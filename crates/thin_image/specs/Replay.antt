@@ -52,21 +52,28 @@ abbrev pub next_commit : List LogRecord → ℕ
 next_commit records = 1 + sum_by (λ item. item.commits) records
 
 -- A history from the making of an image on: no record's images went home, each image is of one of the 64 homes, and
--- the commit numbers go on from 1, up to 2^62.
-pub record IsHistory (ring : ℕ) (records : List LogRecord) : Type 0 where
+-- the commit numbers go on from 1, up to a greatest next one.
+pub record IsHistoryUpTo (most ring : ℕ) (records : List LogRecord) : Type 0 where
   pub tails : All (λ item. item.tail ≡ ring) records
   pub low : All (λ item. All (λ image. image.home < 64) item.images) records
   pub numbers : (k : ℕ) (d : LogRecord) → k < length records → (slice_index_or records k d).first ≡ next_commit (take k records)
-  pub few : next_commit records ≤ 2 ^ 62
+  pub few : next_commit records ≤ most
+
+-- the same of an image that can be mounted: the calls of a mount are then numbered within 64 bits
+abbrev pub IsHistory : ℕ → List LogRecord → Type 0
+IsHistory ring records = IsHistoryUpTo (2 ^ 62) ring records
 
 -- an image of at least 72 sectors, whose log has these records, and leaves an inode sector at each of the 64 homes
-pub record IsThinWith (image : List Sector) (records : List LogRecord) : Type 0 where
+pub record IsThinUpTo (most : ℕ) (image : List Sector) (records : List LogRecord) : Type 0 where
   pub size : 72 ≤ length image
   pub log : IsLog (ring_part image) records
-  pub history : IsHistory (length (ring_part image)) records
+  pub history : IsHistoryUpTo most (length (ring_part image)) records
   pub inodes : AreInodes (replayed (homes image) records)
 
 -- an image that can be mounted
+abbrev pub IsThinWith : List Sector → List LogRecord → Type 0
+IsThinWith image records = IsThinUpTo (2 ^ 62) image records
+
 abbrev pub IsThin : List Sector → Type 0
 IsThin image = (records : List LogRecord) × IsThinWith image records
 

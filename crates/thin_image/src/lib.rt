@@ -9,7 +9,7 @@ mod log;
 
 pub use image::{LEAST_SECTORS, Replayed, replay};
 pub use inodes::{FIRST_NUMBER, INODES, new_inode};
-pub use laws::one_log;
+pub use laws::{images_make_inodes, next_record_is_added, one_log};
 
 #[cfg(test)]
 mod tests;
