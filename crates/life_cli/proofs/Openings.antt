@@ -3,7 +3,8 @@ use Rattle.std.proofs.Common.{◌≡◌, ℕ, Bool, true, false, List, [], ◌�
 use Rattle.std.specs.Option.{IfSome}
 use Rattle.std.specs.List.{AllByRecursion}
 use Rattle.life_bytes.specs.declared.sector.Sector.{Sector}
-use Rattle.disk_model.specs.Disk.{Cell, as_read, settled_as}
+use Rattle.disk_model.specs.Disk.{Cell, HasOneImage, as_read, settled_as}
+use Rattle.thin_run.specs.Wherever.{IsLeft, LeftWhereTold}
 use Rattle.disk_model.specs.DiskLaws.{as_read-settled_as}
 use Rattle.thin_run.specs.declared.command.Command.{Command}
 use Rattle.thin_run.specs.declared.types.Said.{Said}
@@ -78,3 +79,14 @@ pub fit_at : (told : Bool) (cells : List Cell) (at : Option (List Sector)) → (
 fit_at false cells at given said fit = tt
 fit_at true cells None given said fit = tt
 fit_at true cells (Some image) given said fit = subst (λ (l : List Sector). MountsFit l said) (reads_as cells image (given refl)) fit
+
+-- and what is left of the disk that is handed back goes on from it
+pub left_at : {D : Type 0} (told : Bool) (cells : List Cell) (at : Option (List Sector)) → (IsTrue told → IfSome at (λ image. cells ≡ settled_as image))
+    → (IsTrue told → HasOneImage cells) → (cells_of : D → List Cell) (disk : Option D) (mounts : List MountRecord)
+    → (IsTrue told → HasOneImage cells → IfSome disk (λ d. IsLeft (as_read cells) mounts (cells_of d)))
+    → IfSome disk (λ d. LeftWhereTold (image_told told at) mounts (cells_of d))
+left_at told cells at given one cells_of None mounts left = tt
+left_at false cells at given one cells_of (Some d) mounts left = tt
+left_at true cells None given one cells_of (Some d) mounts left = tt
+left_at true cells (Some image) given one cells_of (Some d) mounts left =
+    subst (λ (l : List Sector). IsLeft l mounts (cells_of d)) (reads_as cells image (given refl)) (left refl (one refl))

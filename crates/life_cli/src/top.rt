@@ -9,6 +9,7 @@ ghost use Rattle.disk_model.specs.Images.{attached};
 ghost use Rattle.life_bytes.specs.declared.sector.Sector.{Sector};
 ghost use Rattle.thin_run.specs.Thin.{ring_of, MountsFit};
 ghost use Rattle.life_cli.specs.Outcome.{IsPath, IsSteps, IsScript, IsReadable, WhereTold, RefusesScript, Replied, EndsAs, image_told, IsEarly, Yields, IsWritten, IsUsage, FaultsExactly, IsTooLongExactly, CompletesAs};
+ghost use Rattle.thin_run.specs.Wherever.{LeftWhereTold};
 ghost use Rattle.thin_run.specs.Outcome.{AnswersAll, IsLegalOver, IsLogged, IsFirst, Caused, FitWhereTold, where_told, IsRunStatus};
 ghost use Rattle.thin_run.specs.Ending.{stories_of};
 ghost use Rattle.thin_run.specs.declared.types.Status.TheVariants as status;
@@ -95,6 +96,7 @@ fn run_steps<I: Images, S: Source>(
     ensures damaged { FitWhereTold (image_told I.Disk.told (I.image_at images.old path.now)) result.said.items }
     ensures log { IfSome result.disk (λ disk. AllByRecursion (IsLogged (image_told I.Disk.told (I.image_at images.old path.now)) (ring_of (I.Disk.sector_count disk))) result.mounts.items) }
     ensures first { AllByRecursion IsFirst result.mounts.items }
+    ensures wherever { IfSome result.disk (λ disk. LeftWhereTold (image_told I.Disk.told (I.image_at images.old path.now)) result.mounts.items (I.Disk.cells disk)) }
     ensures given { MatchOption result.disk ((I.given images.new ≡ I.given images.old) × IsEarly result.mounts.items result.said.items)
         (λ disk. (count : ℕ) × (I.given images.new ≡ I.given images.old ++ attached path.now count ∷ [])
         × Caused count (I.Disk.fault_count disk) result.said.items result.mounts.items) }
@@ -176,6 +178,11 @@ pub fn top<I: Images, S: Source, K: Sink>(
     ensures first { AllByRecursion IsFirst result.mounts.items }
     ensures log { (path : List ℕ) → IsSteps words.now path → IfSome result.disk (λ disk. AllByRecursion
         (IsLogged (image_told I.Disk.told (I.image_at images.old path)) (ring_of (I.Disk.sector_count disk))) result.mounts.items) }
+
+    // Wherever the device stops, the image that is left stands for the table after a prefix of the mount's changes that
+    // holds each acknowledged one. Where there was no mount, it is the first image.
+    ensures wherever { (path : List ℕ) → IsSteps words.now path → IfSome result.disk (λ disk.
+        LeftWhereTold (image_told I.Disk.told (I.image_at images.old path)) result.mounts.items (I.Disk.cells disk)) }
 
     // A mount is damaged exactly where the image is not thin. All other faults are the disk's.
     ensures damaged { (path : List ℕ) → IsSteps words.now path

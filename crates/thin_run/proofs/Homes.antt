@@ -5,12 +5,12 @@ use Rattle.std.proofs.lemmas.List.FromFn.{length-map-range_with_len}
 use Rattle.log_record.specs.declared.image.Image.{Image}
 use Rattle.log_record.specs.declared.record.LogRecord.{LogRecord}
 use Rattle.log_record.specs.Spelling.{sector_count, sector_at, spelled}
-use Rattle.thin_run.specs.Mount.{image_at}
+use Rattle.thin_image.specs.Inodes.{inode_image}
 
 -- the image of a place has that place for its home
-pub homes-image_at : (places : List ℕ) → map (λ (image : Image). image.home) (map image_at places) ≡ places
-homes-image_at [] = refl
-homes-image_at (place ∷ places) = ap (λ (rest : List ℕ). place ∷ rest) (homes-image_at places)
+pub homes-inode_image : (places : List ℕ) → map (λ (image : Image). image.home) (map inode_image places) ≡ places
+homes-inode_image [] = refl
+homes-inode_image (place ∷ places) = ap (λ (rest : List ℕ). place ∷ rest) (homes-inode_image places)
 
 -- a record is spelled in as many sectors as its number of images asks for
 pub length-spelled : (item : LogRecord) → length (spelled item) ≡ sector_count (length item.images)

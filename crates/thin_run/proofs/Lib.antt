@@ -1,7 +1,11 @@
+pub mod Beginnings
 pub mod Calls
 pub mod Endings
 pub mod Founds
 pub mod History
+pub mod Holding
 pub mod Homes
 pub mod Steps
+pub mod Tables
+pub mod Torn
 pub mod Walks

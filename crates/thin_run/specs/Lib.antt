@@ -1,3 +1,4 @@
+pub mod Changes
 pub mod Counting
 pub mod Ending
 pub mod Fresh
@@ -6,8 +7,10 @@ pub mod Log
 pub mod Mount
 pub mod Outcome
 pub mod Run
+pub mod Standing
 pub mod Steps
 pub mod Story
 pub mod Table
 pub mod Thin
 pub mod Walk
+pub mod Wherever

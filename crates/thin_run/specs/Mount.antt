@@ -1,11 +1,10 @@
 -- What a mount means to its table, to its log and to its disk.
 use Rattle.std.specs.Prelude.{◌≡◌, ◌+◌, ◌-◌, ◌∷◌, ◌++◌, [], ⊤, ℕ, Bool, true, List, is_some, map, vec_len, slice_set}
-use Rattle.log_record.specs.declared.image.Image.{Image}
 use Rattle.log_record.specs.declared.record.LogRecord.{LogRecord}
 use Rattle.thin_run.specs.declared.types.Reply.{Reply}
 use Rattle.thin_run.specs.declared.types.Reply.TheVariants as reply
 use Rattle.thin_run.specs.declared.mount.Mount.{Mount}
-use Rattle.thin_image.specs.Inodes.{inode_sector}
+use Rattle.thin_image.specs.Inodes.{inode_image}
 use Rattle.thin_run.specs.InUse.{AllInUse, IsFirstFree}
 use Rattle.thin_run.specs.Log.{LogState}
 use Rattle.thin_run.specs.Log.{LogReply, LogStep}
@@ -20,10 +19,6 @@ use Rattle.thin_run.specs.declared.types.Entry.{Entry}
 abbrev pub log_of : Mount → LogState
 log_of m = record { position = m.ring + m.place; pending = vec_len m.pending; changes = m.changes; acknowledged = m.story.acknowledged }
 
--- the image of the inode at a place, in its first life
-abbrev pub image_at : ℕ → Image
-image_at place = record { home = place; sector = inode_sector (192 + place) }
-
 -- the record of all that is pending
 abbrev pub next_record : Mount → LogRecord
 next_record m = record {
@@ -31,7 +26,7 @@ next_record m = record {
   tail = m.ring;
   first = m.story.base + (m.changes - vec_len m.pending);
   commits = vec_len m.pending;
-  images = map image_at m.pending.items;
+  images = map inode_image m.pending.items;
 }
 
 -- a create makes the first inode that is free, or finds none
@@ -92,6 +87,7 @@ pub record LeavesStory (old new : Mount) : Type 0 where
   pub kept : new.story.kept ≡ old.story.kept
   pub freed : new.story.freed ≡ old.story.freed
   pub in_use : new.in_use ≡ old.in_use
+  pub pending : new.pending.items ≡ old.pending.items
   pub log : log_of new ≡ log_of old
   pub ring : new.ring ≡ old.ring
   pub down : new.down ≡ old.down

@@ -9,7 +9,9 @@ use Rattle.thin_run.specs.Log.{log_from, LogHistory}
 use Rattle.thin_run.specs.Mount.{log_of, use_of, LeavesStory}
 use Rattle.thin_run.specs.Story.{AnswerState, unmounted, AnswersLine, FaultState, SaidCause}
 use Rattle.thin_run.specs.Table.{Table, LegalHistory}
-use Rattle.thin_run.specs.Thin.{ring_of, Origin, Begins, MountFits}
+use Rattle.disk_model.specs.Disk.{Cell, HasOneImage, as_read}
+use Rattle.thin_run.specs.Standing.{Holds}
+use Rattle.thin_run.specs.Thin.{ring_of, Origin, Begins, MountFits, Stands}
 
 -- the mount is over a disk of so many sectors
 abbrev pub FitsDisk : Option Mount → ℕ → Type 0
@@ -62,6 +64,11 @@ pub record KeepsImage (old new : Option Mount) (before after : List Sector) (sai
   pub fits : (image : List Sector) → (is_some old ≡ false → before ≡ image) → MountFits image said
   pub same : is_some new ≡ false → after ≡ before
   pub stays : is_some new ≡ false → is_some old ≡ false
+
+-- what the disk holds: while no mount is up, the first image alone; then what the mount that is up holds of it
+abbrev pub DiskHolds : List Sector → Option Mount → List Cell → Type 0
+DiskHolds image None cells = HasOneImage cells × (as_read cells ≡ image)
+DiskHolds image (Some m) cells = (first : Table) × Stands image first × Holds first m cells
 
 -- what the mount tells is as before
 abbrev pub LeaveStory : Option Mount → Option Mount → Type 0

@@ -5,17 +5,14 @@ use Rattle.thin_run.specs.declared.types.LineReply.TheVariants as line
 use Rattle.thin_run.specs.declared.types.Said.{Said}
 use Rattle.thin_run.specs.declared.types.Said.TheVariants.{Of, Line}
 use Rattle.thin_image.specs.Inodes.{IsUse}
-use Rattle.thin_image.specs.Replay.{IsThin, IsThinWith, IsStart, homes, ring_part, replayed, next_commit}
+use Rattle.thin_image.specs.Replay.{IsThin, IsThinUpTo, IsThinWith, IsStart, homes, ring_part, replayed, next_commit}
 use Rattle.log_record.specs.declared.record.LogRecord.{LogRecord}
-use Rattle.thin_run.specs.Table.{Table, Row}
+use Rattle.thin_run.specs.Changes.{kept_row}
+use Rattle.thin_run.specs.Table.{Table}
 
 -- how many sectors the ring of a disk of so many has: all behind the inodes, and at most 2^62
 abbrev pub ring_of : ℕ → ℕ
 ring_of sectors = min (sectors - 64) (2 ^ 62)
-
--- an inode that an image holds: it has one link, and nobody holds it yet
-abbrev pub kept_row : Row
-kept_row = record { generation = 1; links = 1; opens = 0 }
 
 -- the table of these flags: a row for each inode that is in use
 abbrev pub table_of : List Bool → Table
@@ -28,6 +25,11 @@ RowsOf sectors t = (in_use : List Bool) × (length in_use ≡ 64) × IsUse secto
 -- an image stands for the table of its inode sectors, overlaid by the records of its log
 abbrev pub Stands : List Sector → Table → Type 0
 Stands image t = (records : List LogRecord) × IsThinWith image records × RowsOf (replayed (homes image) records) t
+
+-- the same, with the number of its next commit, for an image of which a mount need not come up
+abbrev pub StandsAt : List Sector → Table → ℕ → Type 0
+StandsAt image t next =
+    (records : List LogRecord) × IsThinUpTo (2 ^ 64 - 1) image records × RowsOf (replayed (homes image) records) t × (next ≡ next_commit records)
 
 -- what a mount begins with: its table, where its log goes on, and the number of its first change
 pub record Origin : Type 0 where

@@ -2,7 +2,7 @@
 
 ghost use Rattle.std.specs.Prelude.{◌≡◌, ◌≤◌, ◌<◌, ◌*◌, ◌^◌, ℕ, IsTrue, IfOk, IfErr, OnOk, OnErr, None, length};
 ghost use Rattle.life_ports.specs.Faults.{HasCauseOrNoMemory};
-ghost use Rattle.disk_model.specs.Disk.{as_read};
+ghost use Rattle.disk_model.specs.Disk.{as_read, flushed};
 ghost use Rattle.thin_image.specs.Replay.{IsThin, Replays};
 ghost use Rattle.thin_run.specs.declared.types.Said.TheVariants.{Line};
 ghost use Rattle.thin_run.specs.Thin.{Origin, Begins, MountFits, ring_of};
@@ -88,6 +88,9 @@ pub(crate) fn try_mount<D: Disk>(alloc: Global, disk: &mut D) -> Result<Mount, M
     ensures thin { IsTrue D.told → OnOk result (IsThin (as_read (D.cells disk.old))) }
     ensures refused { IfErr result (λ refusal. RefusesMount (D.fault_count disk.old) (D.fault_count disk.new) refusal) }
     ensures fits { IsTrue D.told → IfErr result (λ refusal. RefusalFits (as_read (D.cells disk.old)) refusal) }
+    ensures small { OnOk result (D.sector_count disk.old ≤ 2 ^ 62) }
+    ensures flushed { IsTrue D.told → OnOk result (D.cells disk.new ≡ flushed (D.cells disk.old)) }
+    ensures kept { OnErr result (D.cells disk.new ≡ D.cells disk.old) }
     ensures same { IsTrue D.told → as_read (D.cells disk.new) ≡ as_read (D.cells disk.old) }
     ensures sectors { D.sector_count disk.new ≡ D.sector_count disk.old }
 {

@@ -2,6 +2,8 @@
 
 ghost use Rattle.std.specs.Prelude.{◌≡◌, ◌<◌, ◌≤◌, ◌+◌, ◌^◌, ◌∷◌, ◌++◌, [], ℕ, length, slice_index, vec_len, vec_capacity};
 ghost use Rattle.std.specs.List.Sorted.{IsStrictlyIncreasing};
+ghost use Rattle.log_record.specs.Spelling.{FitsImage};
+ghost use Rattle.thin_image.specs.Inodes.{inode_image};
 ghost use Rattle.thin_run.specs.InUse.{NoneFree};
 ghost use Rattle.thin_run.specs.Counting.{IsCounting};
 
@@ -12,7 +14,19 @@ use life_bytes::Sector;
 use life_ports::NoMemory;
 use log_record::{Image, ImageList, LogRecord, record_bytes, record_sectors};
 use std::alloc::Global;
-use thin_image::{FIRST_NUMBER, INODES, new_inode};
+use thin_image::{FIRST_NUMBER, INODES, images_make_inodes, new_inode, next_record_is_added};
+
+/// The image of the inode at a place, in its first life.
+fn image_of(place: u64) -> Image
+    requires { place < 64 }
+    ensures value { result ≡ inode_image place }
+    ensures fits { FitsImage result }
+{
+    Image {
+        home: place,
+        sector: new_inode(FIRST_NUMBER + place),
+    }
+}
 
 /// A mount that is up.
 #[derive(Drop)]
@@ -46,8 +60,11 @@ pub(crate) struct Mount {
 }
 
 impl Mount {
-    ghost use Rattle.std.specs.Prelude.{◌≡◌, ◌<◌, ◌≤◌, ◌+◌, ◌∷◌, [], ◌++◌, ℕ, None, IfOk, OnOk, OnErr, length, vec_len};
-    ghost use Rattle.log_record.specs.Spelling.{IsRecord, sector_count, spelled};
+    ghost use Rattle.std.specs.Prelude.{◌≡◌, ◌<◌, ◌≤◌, ◌+◌, ◌∷◌, [], ◌++◌, ℕ, List, None, IsTrue, IfOk, OnOk, OnErr, length, vec_len};
+    ghost use Rattle.disk_model.specs.Disk.{Cell};
+    ghost use Rattle.log_record.specs.Spelling.{IsRecord, FitsFields, sector_count, spelled};
+    ghost use Rattle.thin_run.specs.Standing.{CanSpell, Holds, Moves};
+    ghost use Rattle.thin_run.specs.Table.{Table};
     ghost use Rattle.thin_run.specs.declared.types.Entry.{Entry};
     ghost use Rattle.thin_run.specs.Log.{LogReply, sectors_needed};
     ghost use Rattle.thin_run.specs.Story.{ReplyCause};
@@ -56,6 +73,7 @@ impl Mount {
     /// Makes an inode, the first that is free.
     fn create(&mut self) -> Result<Reply, NoMemory>
         ensures creates { IfOk result (λ reply. Creates self.old.in_use reply self.new.in_use) }
+        ensures moves { (cells : List Cell) → IfOk result (λ reply. Moves self.old cells reply self.new cells) }
         ensures log { IfOk result (λ reply. LogReply self.old.ring (log_of self.old) reply (log_of self.new)) }
         ensures ring { self.new.ring ≡ self.old.ring }
         ensures down { self.new.down ≡ self.old.down }
@@ -84,13 +102,11 @@ impl Mount {
     fn next_record(&self, alloc: Global) -> Result<LogRecord, NoMemory>
         ensures value { IfOk result (λ item. item ≡ next_record self.now) }
         ensures form { IfOk result IsRecord }
+        ensures fits { IfOk result FitsFields }
     {
         let mut images = ImageList::new(alloc);
         for home in &self.pending {
-            images.push(Image {
-                home: *home,
-                sector: new_inode(FIRST_NUMBER + *home),
-            })?;
+            images.push(image_of(*home))?;
         }
         let count = self.pending.len() as u64;
         Ok(LogRecord {
@@ -107,6 +123,7 @@ impl Mount {
     fn sync<D: Disk>(&mut self, alloc: Global, disk: &mut D) -> Result<Reply, NoMemory>
         requires { 64 + self.old.ring ≤ D.sector_count disk.old }
         ensures syncs { IfOk result IsSyncReply }
+        ensures moves { IsTrue D.told → IfOk result (λ reply. Moves self.old (D.cells disk.old) reply self.new (D.cells disk.new)) }
         ensures log { IfOk result (λ reply. LogReply self.old.ring (log_of self.old) reply (log_of self.new)) }
         ensures cause { IfOk result (λ reply. ReplyCause (faults_of self.old (D.fault_count disk.old)) reply
             (faults_of self.new (D.fault_count disk.new))) }
@@ -147,6 +164,7 @@ impl Mount {
     fn spell_record(&self, alloc: Global) -> Result<Vec<Sector>, NoMemory>
         ensures spelled { IfOk result (λ sectors. sectors.items ≡ spelled (next_record self.now)) }
         ensures count { IfOk result (λ sectors. length sectors.items ≡ sector_count (vec_len self.now.pending)) }
+        ensures can { OnOk result (CanSpell self.now) }
     {
         let item = self.next_record(alloc)?;
         record_bytes(alloc, &item)
@@ -172,6 +190,7 @@ impl Mount {
     ) -> Result<Reply, NoMemory>
         requires { 64 + self.old.ring ≤ D.sector_count disk.old }
         ensures answers { IfOk result (λ reply. IsAnswer call self.old self.new (D.fault_count disk.old) (D.fault_count disk.new) reply) }
+        ensures moves { IsTrue D.told → IfOk result (λ reply. Moves self.old (D.cells disk.old) reply self.new (D.cells disk.new)) }
         ensures story { self.new.story ≡ record self.old.story { acknowledged = self.new.story.acknowledged } }
         ensures err { OnErr result (LeavesStory self.old self.new) }
         ensures disk { OnErr result (disk.new ≡ disk.old) }
@@ -193,11 +212,14 @@ impl Mount {
     ) -> Result<(), NoMemory>
         requires { 64 + self.old.ring ≤ D.sector_count disk.old }
         ensures noted { OnOk result ((entry : Entry) × IsCall call self.old self.new (D.fault_count disk.old) (D.fault_count disk.new) entry) }
+        ensures holds { IsTrue D.told → (first : Table) → Holds first self.old (D.cells disk.old) → Holds first self.new (D.cells disk.new) }
         ensures unnoted { OnErr result (LeavesStory self.old self.new) }
         ensures disk { OnErr result (disk.new ≡ disk.old) }
         ensures ring { self.new.ring ≡ self.old.ring }
         ensures sectors { D.sector_count disk.new ≡ D.sector_count disk.old }
     {
+        next_record_is_added();
+        images_make_inodes();
         self.story.entries.reserve(1)?;
         self.story.froms.reserve(1)?;
         let reply = self.answer(alloc, disk, call)?;

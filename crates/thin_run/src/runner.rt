@@ -4,10 +4,11 @@ ghost use Rattle.std.specs.Prelude.{◌≡◌, ◌≤◌, ◌++◌, ◌∷◌, [
 ghost use Rattle.thin_run.specs.declared.types.Entry.{Entry};
 ghost use Rattle.thin_run.specs.declared.types.Said.TheVariants.{Line};
 ghost use Rattle.thin_run.specs.declared.command.Command.TheVariants as command;
-ghost use Rattle.disk_model.specs.Disk.{as_read};
+ghost use Rattle.disk_model.specs.Disk.{HasOneImage, as_read};
 ghost use Rattle.thin_run.specs.Story.{Told};
 ghost use Rattle.thin_run.specs.Walk.{IsWalk, IsWalkOver};
-ghost use Rattle.thin_run.specs.Run.{FitsDisk, AnswersAs, ComesUp, KeepsImage, LeaveStory};
+ghost use Rattle.thin_run.specs.Run.{FitsDisk, AnswersAs, ComesUp, KeepsImage, DiskHolds, LeaveStory};
+ghost use Rattle.life_bytes.specs.declared.sector.Sector.{Sector};
 
 use crate::command::Command;
 use crate::inspect::{MountRefused, try_mount};
@@ -24,6 +25,7 @@ fn answer_mount<D: Disk>(
 ) -> Result<LineReply, NoMemory>
     requires { FitsDisk mount.old (D.sector_count disk.old) }
     ensures fits { FitsDisk mount.new (D.sector_count disk.new) }
+    ensures holds { IsTrue D.told → (image : List Sector) → DiskHolds image mount.old (D.cells disk.old) → DiskHolds image mount.new (D.cells disk.new) }
     ensures answers { IfOk result (λ reply. AnswersAs command.Mount mount.old mount.new (D.fault_count disk.old) (D.fault_count disk.new) (Line None reply) None) }
     ensures comes_up { OnOk result (ComesUp D.told (as_read (D.cells disk.old)) mount.old mount.new) }
     ensures image { IsTrue D.told → IfOk result (λ reply. KeepsImage mount.old mount.new (as_read (D.cells disk.old)) (as_read (D.cells disk.new)) (Line None reply)) }
@@ -53,6 +55,7 @@ fn answer_call<D: Disk>(
 ) -> Result<Said, NoMemory>
     requires { FitsDisk mount.old (D.sector_count disk.old) }
     ensures fits { FitsDisk mount.new (D.sector_count disk.new) }
+    ensures holds { IsTrue D.told → (image : List Sector) → DiskHolds image mount.old (D.cells disk.old) → DiskHolds image mount.new (D.cells disk.new) }
     ensures answers { IfOk result (λ said. (made : Option Entry) × AnswersAs (command.Whole call) mount.old mount.new
         (D.fault_count disk.old) (D.fault_count disk.new) said made) }
     ensures image { IsTrue D.told → IfOk result (KeepsImage mount.old mount.new (as_read (D.cells disk.old)) (as_read (D.cells disk.new))) }
@@ -82,6 +85,7 @@ fn answer_line<D: Disk>(
 ) -> Result<Said, NoMemory>
     requires { FitsDisk mount.old (D.sector_count disk.old) }
     ensures fits { FitsDisk mount.new (D.sector_count disk.new) }
+    ensures holds { IsTrue D.told → (image : List Sector) → DiskHolds image mount.old (D.cells disk.old) → DiskHolds image mount.new (D.cells disk.new) }
     ensures answers { IfOk result (λ said. (made : Option Entry) × AnswersAs command mount.old mount.new
         (D.fault_count disk.old) (D.fault_count disk.new) said made) }
     ensures image { IsTrue D.told → IfOk result (KeepsImage mount.old mount.new (as_read (D.cells disk.old)) (as_read (D.cells disk.new))) }
@@ -110,11 +114,12 @@ pub(crate) struct Run {
 }
 
 impl Run {
-    ghost use Rattle.std.specs.Prelude.{◌≡◌, ◌≤◌, ◌++◌, ◌∷◌, [], Option, IsTrue, OnOk, OnErr};
+    ghost use Rattle.std.specs.Prelude.{◌≡◌, ◌≤◌, ◌++◌, ◌∷◌, [], List, Option, IsTrue, OnOk, OnErr};
     ghost use Rattle.disk_model.specs.Disk.{as_read};
     ghost use Rattle.thin_run.specs.declared.types.Said.{Said};
     ghost use Rattle.thin_run.specs.declared.types.Entry.{Entry};
-    ghost use Rattle.thin_run.specs.Run.{FitsDisk, LeaveStory};
+    ghost use Rattle.thin_run.specs.Run.{DiskHolds, FitsDisk, LeaveStory};
+    ghost use Rattle.life_bytes.specs.declared.sector.Sector.{Sector};
     ghost use Rattle.thin_run.specs.Walk.{Goes, KeepsReads};
 
     /// Runs one line. Where memory lacks, it was not run.
@@ -126,6 +131,7 @@ impl Run {
     ) -> Result<(), NoMemory>
         requires { FitsDisk self.old.mount (D.sector_count disk.old) }
         ensures fits { FitsDisk self.new.mount (D.sector_count disk.new) }
+        ensures holds { IsTrue D.told → (image : List Sector) → DiskHolds image self.old.mount (D.cells disk.old) → DiskHolds image self.new.mount (D.cells disk.new) }
         ensures goes { OnOk result ((said : Said) × (made : Option Entry) × Goes command self.old self.new
             (D.fault_count disk.old) (D.fault_count disk.new) said made × KeepsReads D.told self.old self.new (as_read (D.cells disk.old)) (as_read (D.cells disk.new)) said) }
         ensures unmade { OnErr result (LeaveStory self.old.mount self.new.mount) }
@@ -146,6 +152,7 @@ pub(crate) fn run_lines<D: Disk>(alloc: Global, disk: &mut D, commands: &[Comman
     ensures walk { (story : List Told) × ((count : ℕ) × IsWalk (take (length result.0.said.items) commands.now) (D.fault_count disk.old) count result.0 story
         × (count ≤ D.fault_count disk.new)) }
     ensures over { IsWalkOver D.told (as_read (D.cells disk.old)) (as_read (D.cells disk.new)) result.0 }
+    ensures holds { IsTrue D.told → HasOneImage (D.cells disk.old) → DiskHolds (as_read (D.cells disk.old)) result.0.mount (D.cells disk.new) }
     ensures whole { IsTrue result.1 → length result.0.said.items ≡ length commands.now }
     ensures fits { FitsDisk result.0.mount (D.sector_count disk.new) }
     ensures sectors { D.sector_count disk.new ≡ D.sector_count disk.old }

@@ -1,5 +1,5 @@
 use Rattle.std.proofs.Common.{sym, ◌∙◌}
-use Rattle.life_cli.proofs.Openings.{Replied-none, RefusesScript-ill, legal_at, logged_on, fit_at}
+use Rattle.life_cli.proofs.Openings.{Replied-none, RefusesScript-ill, legal_at, logged_on, fit_at, left_at}
 use Rattle.life_cli.proofs.top.run_steps.Goals as goal
 
 pub returns-in-Err-clause-replies : goal.returns-in-Err-clause-replies
@@ -23,3 +23,8 @@ pub returns-in-Ok-attach-clause-log : goal.returns-in-Ok-attach-clause-log
 returns-in-Ok-attach-clause-log g c =
     logged_on g.I.Disk.Disk.sector_count g.I.Disk.Disk.told (g.I.Disk.Disk.cells c.in-Ok-attach.disk) (g.I.Images.image_at c.args.images.now c.args.path.now)
     c.in-Ok-attach.ensures.image c.run_over.result.disk c.run_over.result.mounts.items c.run_over.ensures.log
+
+pub returns-in-Ok-attach-clause-wherever : goal.returns-in-Ok-attach-clause-wherever
+returns-in-Ok-attach-clause-wherever g c =
+    left_at g.I.Disk.Disk.told (g.I.Disk.Disk.cells c.in-Ok-attach.disk) (g.I.Images.image_at c.args.images.now c.args.path.now)
+    c.in-Ok-attach.ensures.image c.in-Ok-attach.ensures.one_image g.I.Disk.Disk.cells c.run_over.result.disk c.run_over.result.mounts.items c.run_over.ensures.wherever

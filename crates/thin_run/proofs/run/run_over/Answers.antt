@@ -1,4 +1,6 @@
-use Rattle.std.proofs.Common.{List, sym, subst, take, length}
+use Rattle.std.proofs.Common.{List, None, refl, ◌∙◌, sym, subst, take, length}
+use Rattle.thin_run.specs.Wherever.{IsLeft}
+use Rattle.thin_run.proofs.Beginnings.{IsLeft-held}
 use Rattle.std.specs.List.{AllByRecursion}
 use Rattle.disk_model.specs.Disk.{as_read}
 use Rattle.thin_run.specs.declared.types.MountRecord.{MountRecord}
@@ -34,3 +36,17 @@ returns-clause-caused g c =
     let run = c.run_lines-run.result.0 in
     IsWalk-caused (take (length run.said.items) c.args.commands.now) (g.D.Disk.fault_count c.args.disk) walk.1.0 (g.D.Disk.fault_count c.run_lines-run.new.disk)
     run walk.0 c.stories.new.mounts.items c.stories.ensures walk.1.1 walk.1.2
+
+pub returns-then-is_err-clause-wherever : goal.returns-then-is_err-clause-wherever
+returns-then-is_err-clause-wherever g c told one =
+    let cells = g.D.Disk.cells c.args.disk in
+    subst (λ (mounts : List MountRecord). IsLeft (as_read cells) mounts cells) (sym (c.reserve.ensures.items ∙ c.new-mounts.ensures.items))
+    (IsLeft-held (as_read cells) None cells (one, refl))
+
+pub returns-clause-wherever : goal.returns-clause-wherever
+returns-clause-wherever g c told one =
+    let image = as_read (g.D.Disk.cells c.args.disk) in
+    let run = c.run_lines-run.result.0 in
+    let after = g.D.Disk.cells c.run_lines-run.new.disk in
+    subst (λ (mounts : List MountRecord). IsLeft image mounts after) (sym c.stories.ensures)
+    (IsLeft-held image run.mount after (c.run_lines-run.ensures.holds told one))

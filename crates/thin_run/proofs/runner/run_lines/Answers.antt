@@ -30,6 +30,7 @@ loop-command-init g c = record {
     },
   );
   over = begun g.D.Disk.told (as_read (g.D.Disk.cells c.args.disk.now)) c.new.result c.new.ensures.items;
+  holds = λ told one. (one, refl);
   said = ap (λ (l : List Said). length l) c.new.ensures.items;
   fits = tt;
   sectors = refl;
@@ -79,6 +80,7 @@ loop-command-preserved g c =
       walk = (story, subst (λ (commands : List Command). IsWalk commands before after c.line.new.self story) (sym lines) goes_on);
       over = IsWalkOver-goes g.D.Disk.told (as_read (g.D.Disk.cells c.args.disk.now)) (as_read (g.D.Disk.cells c.loop-command.disk)) (as_read (g.D.Disk.cells c.line.new.disk))
           middle after c.loop-command.run c.line.new.self one goes.0 goes.1 goes.2 c.loop-command.invariant.over goes.3;
+      holds = λ told one. c.line.ensures.holds told (as_read (g.D.Disk.cells c.args.disk.now)) (c.loop-command.invariant.holds told one);
       said = ap (λ (l : List Said). length l) goes.2.said ∙ length-append c.loop-command.run.said.items (goes.0 ∷ [])
           ∙ ap (λ (n : ℕ). n + 1) c.loop-command.invariant.said;
       fits = c.line.ensures.fits;

@@ -4,7 +4,7 @@ use Rattle.std.proofs.lemmas.Result.{IfOk-weaker}
 use Rattle.life_bytes.specs.declared.sector.Sector.{Sector}
 use Rattle.log_record.specs.declared.record.LogRecord.{LogRecord}
 use Rattle.log_record.specs.Spelling.{spelled, sector_count}
-use Rattle.thin_run.specs.Mount.{image_at}
+use Rattle.thin_image.specs.Inodes.{inode_image}
 use Rattle.thin_run.proofs.Homes.{length-spelled}
 use Rattle.thin_run.proofs.mount.Mount.spell_record.Goals as goal
 
@@ -12,7 +12,7 @@ pub returns-clause-count : goal.returns-clause-count
 returns-clause-count c =
     let item = c.in_ok-item.item in
     let mapped : length item.images ≡ length c.args.self.now.pending.items =
-    ap (λ (r : LogRecord). length r.images) c.in_ok-item.ensures.value ∙ length-map c.args.self.now.pending.items image_at in
+    ap (λ (r : LogRecord). length r.images) c.in_ok-item.ensures.value ∙ length-map c.args.self.now.pending.items inode_image in
     let images : length item.images ≡ vec_len c.args.self.now.pending = omega arith in
     IfOk-weaker c.record_bytes.result (λ sectors. sectors.items ≡ spelled item) (λ sectors. length sectors.items ≡ sector_count (vec_len c.args.self.now.pending))
     (λ sectors same. ap (λ (l : List Sector). length l) same ∙ length-spelled item ∙ ap sector_count images) c.record_bytes.ensures.spelled
