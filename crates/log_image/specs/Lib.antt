@@ -1,0 +1,5 @@
+pub mod Anchor
+pub mod Overlay
+pub mod OverlayLaws
+pub mod Log
+pub mod Step
