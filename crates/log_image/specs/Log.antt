@@ -20,9 +20,9 @@ groups_part anchor image = take anchor image
 abbrev pub ring_part : ℕ → ℕ → List Sector → List Sector
 ring_part anchor ring image = take ring (drop (anchor + 1) image)
 
--- each sector of a ring begins with a number, in its first eight bytes, that is below this position
-abbrev pub AreBelow : List Sector → ℕ → Type 0
-AreBelow ring position = (place : ℕ) (d : Sector) → place < length ring → field 8 0 (slice_index_or ring place d).bytes < position
+-- Each sector of a ring begins with a number, in its first eight bytes, that is below this position.
+pub record AreBelow (ring : List Sector) (position : ℕ) : Type 0 where
+  pub each : (place : ℕ) (d : Sector) → place < length ring → field 8 0 (slice_index_or ring place d).bytes < position
 
 -- ---- records
 

@@ -1,6 +1,14 @@
 //! What the log of an image says: its anchor, the chain of its whole records, and the sectors that they leave. All of it is definitions (`specs/`) and laws.
 #![tactic(auto)]
 
+mod cover;
+mod home;
+mod log;
 mod overlay;
+mod torn;
 
+pub use cover::covers;
+pub use home::home_writes;
+pub use log::logs;
 pub use overlay::overlays;
+pub use torn::torn_records;

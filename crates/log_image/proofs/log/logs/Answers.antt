@@ -1,0 +1,14 @@
+use Rattle.log_image.proofs.Homes.{image-unique, image_empty}
+use Rattle.log_image.proofs.Written.{image_bounds}
+use Rattle.log_image.proofs.log.logs.Goals as goal
+
+pub returns-clause-one : goal.returns-clause-one
+returns-clause-one c =
+    image-unique (record { one = c.whole_records.ensures.one; places = c.whole_records.ensures.places; stamped = c.whole_records.ensures.stamped; counted = c.whole_records.ensures.counted })
+
+pub returns-clause-bounds : goal.returns-clause-bounds
+returns-clause-bounds c = image_bounds
+
+pub returns-clause-empty : goal.returns-clause-empty
+returns-clause-empty c =
+    image_empty (record { one = c.whole_records.ensures.one; places = c.whole_records.ensures.places; stamped = c.whole_records.ensures.stamped; counted = c.whole_records.ensures.counted })

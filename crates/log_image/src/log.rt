@@ -1,0 +1,22 @@
+// What holds of the logs of all images.
+ghost use Rattle.std.specs.Prelude.{ℕ, ◌≡◌, ◌≤◌, ◌<◌, ◌+◌, ◌-◌, ◌^◌, List, length};
+ghost use Rattle.life_bytes.specs.declared.sector.Sector.{Sector};
+ghost use Rattle.log_image.specs.Anchor.{HasAnchor};
+ghost use Rattle.log_image.specs.Log.{AreBelow, IsLog, Log, empty_log, ring_part};
+
+use log_record::whole_records;
+
+/// Laws of logs: an image has at most one; its bounds; and where no sector of the ring has reached the anchor's position,
+/// it is empty.
+pub fn logs()
+    ensures one { (image : List Sector) (anchor ring : ℕ) (a b : Log)
+        → IsLog image anchor ring a → IsLog image anchor ring b → a ≡ b }
+    ensures bounds { (image : List Sector) (anchor ring : ℕ) (log : Log) → IsLog image anchor ring log
+        → (log.tail ≤ log.end) × (log.end - log.tail ≤ ring) × (ring ≤ log.end) × (log.end < 2 ^ 64)
+        × (1 ≤ log.next) × (log.next < 2 ^ 64) }
+    ensures empty { (image : List Sector) (anchor ring position next : ℕ) → anchor + 1 + ring ≤ length image
+        → HasAnchor image anchor ring position next → AreBelow (ring_part anchor ring image) position
+        → IsLog image anchor ring (empty_log position next) }
+{
+    whole_records();
+}
