@@ -5,3 +5,4 @@ pub mod RingLogs
 pub mod Parts
 pub mod Written
 pub mod Homes
+pub mod TornSectors

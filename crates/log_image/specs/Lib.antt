@@ -3,3 +3,4 @@ pub mod Overlay
 pub mod OverlayLaws
 pub mod Log
 pub mod Step
+pub mod Writes

@@ -2,12 +2,14 @@
 #![tactic(auto)]
 
 mod cover;
+mod disk;
 mod home;
 mod log;
 mod overlay;
 mod torn;
 
 pub use cover::covers;
+pub use disk::disk_writes;
 pub use home::home_writes;
 pub use log::logs;
 pub use overlay::overlays;
