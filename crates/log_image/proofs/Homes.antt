@@ -1,8 +1,10 @@
 -- Images whose groups' sectors were written, and empty logs.
-use Rattle.std.proofs.Common.{◌≡◌, ℕ, ◌+◌, ◌%◌, ◌<◌, ◌≤◌, ◌⊎◌, List, [], length, take, get_or, set, Option, None, Some, unwrap_or, refl, sym, ap, subst, inl, inr, ◌∙◌, arith, get_or-set_same, get_or-set_other, length-set}
+use Rattle.std.proofs.Common.{replicate, ◌≡◌, ℕ, ◌+◌, ◌%◌, ◌<◌, ◌≤◌, ◌⊎◌, List, [], length, take, get_or, set, Option, None, Some, unwrap_or, refl, sym, ap, subst, inl, inr, ◌∙◌, arith, get_or-set_same, get_or-set_other, length-set}
 use Rattle.std.proofs.lemmas.Bool.{cases_lt, cases_eq}
 use Rattle.std.proofs.lemmas.Nat.{mod_below}
-use Rattle.std.proofs.lemmas.List.{get_or-take, length-take-le, same_lists, set_past}
+use Rattle.std.proofs.lemmas.List.{length-replicate, get_or-replicate, get_or-take, length-take-le, same_lists, set_past}
+use Rattle.life_bytes.specs.Fields.{field}
+use Rattle.life_bytes.specs.Sectors.{zero_sector}
 use Rattle.life_bytes.specs.declared.sector.Sector.{Sector}
 use Rattle.log_record.specs.declared.record.LogRecord.{LogRecord}
 use Rattle.log_image.specs.Anchor.{HasAnchor}
@@ -128,4 +130,16 @@ image_empty laws image anchor ring position next size has below = record {
       below = record { each = λ place d within. omega (arith, below.each place d within) };
     },
   );
+}
+
+zero_field : field 8 0 zero_sector.bytes ≡ 0
+zero_field = refl
+
+pub zeros_below : (ring position : ℕ) → 0 < position → AreBelow (replicate ring zero_sector) position
+zeros_below ring position some = record {
+  each = λ place d within.
+      let low : place < ring = omega (arith, length-replicate ring zero_sector) in
+      let is : get_or (replicate ring zero_sector) place d ≡ zero_sector = get_or-replicate ring place zero_sector d low in
+      let field_is : field 8 0 (get_or (replicate ring zero_sector) place d).bytes ≡ 0 = ap (λ (s : Sector). field 8 0 s.bytes) is ∙ zero_field in
+      omega arith;
 }

@@ -53,12 +53,12 @@ same_ring old new anchor ring size same =
 anchor_is_rows : (position next : ℕ) → AreRows 512 (anchor_rows position next)
 anchor_is_rows position next = ((omega arith, refl), ((omega arith, refl), ((omega arith, refl), tt)))
 
-anchor_position : (position next : ℕ) → position < 2 ^ 64 → field 8 8 (anchor_sector position next).bytes ≡ position
+pub anchor_position : (position next : ℕ) → position < 2 ^ 64 → field 8 8 (anchor_sector position next).bytes ≡ position
 unfolding anchor_sector
 anchor_position position next small =
     sealed_number 4 (anchor_rows position next) 1 8 8 position (anchor_is_rows position next) (omega arith) refl refl small
 
-anchor_next : (position next : ℕ) → next < 2 ^ 64 → field 8 16 (anchor_sector position next).bytes ≡ next
+pub anchor_next : (position next : ℕ) → next < 2 ^ 64 → field 8 16 (anchor_sector position next).bytes ≡ next
 unfolding anchor_sector
 anchor_next position next small =
     sealed_number 4 (anchor_rows position next) 2 16 8 next (anchor_is_rows position next) (omega arith) refl refl small

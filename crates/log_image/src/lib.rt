@@ -1,6 +1,7 @@
-//! What the log of an image says: its anchor, the chain of its whole records, and the sectors that they leave. All of it is definitions (`specs/`) and laws.
+//! What the log of an image says: its anchor, the chain of its whole records, and the sectors that they leave. But for the anchor it is definitions (`specs/`) and laws.
 #![tactic(auto)]
 
+mod anchor;
 mod cover;
 mod disk;
 mod home;
@@ -8,9 +9,13 @@ mod log;
 mod overlay;
 mod torn;
 
+pub use anchor::{Anchor, read_anchor, write_anchor};
 pub use cover::covers;
 pub use disk::disk_writes;
 pub use home::home_writes;
 pub use log::logs;
 pub use overlay::overlays;
 pub use torn::torn_records;
+
+#[cfg(test)]
+mod tests;

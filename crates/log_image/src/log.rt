@@ -1,13 +1,14 @@
 // What holds of the logs of all images.
-ghost use Rattle.std.specs.Prelude.{ℕ, ◌≡◌, ◌≤◌, ◌<◌, ◌+◌, ◌-◌, ◌^◌, List, length};
+ghost use Rattle.std.specs.Prelude.{ℕ, ◌≡◌, ◌≤◌, ◌<◌, ◌+◌, ◌-◌, ◌^◌, List, length, replicate};
+ghost use Rattle.life_bytes.specs.Sectors.{zero_sector};
 ghost use Rattle.life_bytes.specs.declared.sector.Sector.{Sector};
 ghost use Rattle.log_image.specs.Anchor.{HasAnchor};
 ghost use Rattle.log_image.specs.Log.{AreBelow, IsLog, Log, empty_log, ring_part};
 
 use log_record::whole_records;
 
-/// Laws of logs: an image has at most one; its bounds; and where no sector of the ring has reached the anchor's position,
-/// it is empty.
+/// Laws of logs: an image has at most one; its bounds; where no sector of the ring has reached the anchor's position, it is
+/// empty; and in a ring of zero bytes no sector has reached any position.
 pub fn logs()
     ensures one { (image : List Sector) (anchor ring : ℕ) (a b : Log)
         → IsLog image anchor ring a → IsLog image anchor ring b → a ≡ b }
@@ -17,6 +18,7 @@ pub fn logs()
     ensures empty { (image : List Sector) (anchor ring position next : ℕ) → anchor + 1 + ring ≤ length image
         → HasAnchor image anchor ring position next → AreBelow (ring_part anchor ring image) position
         → IsLog image anchor ring (empty_log position next) }
+    ensures zeros { (ring position : ℕ) → 0 < position → AreBelow (replicate ring zero_sector) position }
 {
     whole_records();
 }

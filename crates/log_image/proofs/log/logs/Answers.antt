@@ -1,4 +1,4 @@
-use Rattle.log_image.proofs.Homes.{image-unique, image_empty}
+use Rattle.log_image.proofs.Homes.{image-unique, image_empty, zeros_below}
 use Rattle.log_image.proofs.Written.{image_bounds}
 use Rattle.log_image.proofs.log.logs.Goals as goal
 
@@ -12,3 +12,6 @@ returns-clause-bounds c = image_bounds
 pub returns-clause-empty : goal.returns-clause-empty
 returns-clause-empty c =
     image_empty (record { one = c.whole_records.ensures.one; places = c.whole_records.ensures.places; stamped = c.whole_records.ensures.stamped; counted = c.whole_records.ensures.counted })
+
+pub returns-clause-zeros : goal.returns-clause-zeros
+returns-clause-zeros c = zeros_below
