@@ -1,11 +1,16 @@
 -- Chains of whole records.
-use Rattle.std.proofs.Common.{◌≡◌, ℕ, ◌-◌, ◌≤◌, List, [], ◌∷◌, ◌++◌, length, refl, sym, ap, subst, ◌∙◌, arith}
+use Rattle.std.proofs.Common.{◌≡◌, ℕ, ◌+◌, ◌-◌, ◌<◌, ◌≤◌, List, [], ◌∷◌, ◌++◌, length, refl, sym, ap, subst, inl, inr, ◌∙◌, arith}
+use Rattle.std.proofs.lemmas.Bool.{cases_lt}
+use Rattle.life_bytes.specs.Fields.{field}
 use Rattle.life_bytes.specs.declared.sector.Sector.{Sector}
 use Rattle.log_record.specs.declared.record.LogRecord.{LogRecord}
-use Rattle.log_record.specs.Whole.{IsWholeAt}
+use Rattle.log_record.specs.Whole.{IsWholeAt, at_place}
 use Rattle.log_image.specs.Log.{IsChain, end_of, next_of}
-use Rattle.log_image.proofs.Places.{some_sector}
+use Rattle.log_image.proofs.Places.{count_of, some_sector}
 use Rattle.log_image.proofs.TornRing.{WholeLaws, IsTornRing, kept}
+
+none : Sector
+none = record { bytes = [] }
 
 -- neither positions nor commit numbers fall
 pub chain-bounds : (ring : List Sector) (position number : ℕ) (records : List LogRecord) (end next : ℕ) → IsChain ring position number records end next
@@ -60,3 +65,41 @@ chain-unique laws ring position m n (x ∷ xs) (y ∷ ys) end a b h k =
     let from : IsChain ring (end_of x) (next_of y) ys end b = subst (λ (z : LogRecord). IsChain ring (end_of z) (next_of y) ys end b) (sym same) k.2 in
     let rest : xs ≡ ys = chain-unique laws ring (end_of x) (next_of x) (next_of y) xs ys end a b h.2 from in
     ap (λ (l : List LogRecord). x ∷ l) rest ∙ ap (λ (z : LogRecord). z ∷ ys) same
+
+-- two whole records do not share a sector
+pub apart : (laws : WholeLaws) (ring : List Sector) (p q : ℕ) (a b : LogRecord) → IsWholeAt ring p a → IsWholeAt ring q b → p < q → q < p + count_of a → ⊥
+apart laws ring p q a b isa isb lt within =
+    let i = q - p in
+    let at : p + i ≡ q + 0 = omega arith in
+    let first = laws.stamped ring p i none a isa (omega arith) in
+    let second = laws.stamped ring q 0 none b isb (some_sector b) in
+    let same : field 8 8 (at_place ring (p + i) none).bytes ≡ q = ap (λ (k : ℕ). field 8 8 (at_place ring k none).bytes) at ∙ second.1 in
+    let clash : p ≡ q = sym first.1 ∙ same in
+    omega arith
+
+-- a chain up to the end of the record with the greatest position ends with that record
+pub chain-last : (laws : WholeLaws) (ring : List Sector) (position number : ℕ) (records : List LogRecord) (end next : ℕ) (last : LogRecord)
+    → IsChain ring position number records end next → IsWholeAt ring last.position last → end ≡ end_of last
+    → ((other : LogRecord) → IsWholeAt ring other.position other → other.position ≤ last.position) → position ≤ last.position
+    → (before : List LogRecord) × (records ≡ before ++ last ∷ [])
+chain-last laws ring position number [] end next last h whole at greatest low =
+    let some = some_sector last in
+    absurd (omega (arith, h.0))
+chain-last laws ring position number (item ∷ []) end next last h whole at greatest low =
+    let begins : item.position ≡ position = h.0.begins in
+    let ends : end_of item ≡ end_of last = h.2.0 ∙ at in
+    elim (cases_lt position last.position) [
+      | inl lt ↦
+          let some = some_sector last in
+          absurd (apart laws ring position last.position item last h.0 whole lt (omega arith))
+      | inr le ↦
+          let same : position ≡ last.position = omega arith in
+          let here : IsWholeAt ring last.position item = subst (λ (p : ℕ). IsWholeAt ring p item) same h.0 in
+          ([], ap (λ (r : LogRecord). r ∷ []) (laws.one ring last.position item last here whole))
+    ]
+chain-last laws ring position number (item ∷ (other ∷ records)) end next last h whole at greatest low =
+    let begins : other.position ≡ end_of item = h.2.0.begins in
+    let here : IsWholeAt ring other.position other = subst (λ (p : ℕ). IsWholeAt ring p other) (sym begins) h.2.0 in
+    let later : end_of item ≤ last.position = omega (arith, greatest other here) in
+    let rest = chain-last laws ring (end_of item) (next_of item) (other ∷ records) end next last h.2 whole at greatest later in
+    (item ∷ rest.0, ap (λ (l : List LogRecord). item ∷ l) rest.1)

@@ -1,5 +1,5 @@
 -- The log of a ring, before and after a record was written.
-use Rattle.std.proofs.Common.{◌≡◌, ℕ, ◌+◌, ◌-◌, ◌^◌, ◌<◌, ◌≤◌, List, [], length, get_or, refl, sym, ap, subst, inl, inr, ◌∙◌, arith}
+use Rattle.std.proofs.Common.{◌∷◌, ◌++◌, ◌≡◌, ℕ, ◌+◌, ◌-◌, ◌^◌, ◌<◌, ◌≤◌, List, [], length, get_or, refl, sym, ap, subst, inl, inr, ◌∙◌, arith}
 use Rattle.std.specs.List.{All}
 use Rattle.std.proofs.lemmas.List.Elements.{All-push}
 use Rattle.life_bytes.specs.Fields.{field}
@@ -11,7 +11,7 @@ use Rattle.log_image.specs.Log.{AreBelow, HasLog, IsChain, IsGroupImage, IsLast,
 use Rattle.log_image.specs.Step.{cover_of, covered, with_record}
 use Rattle.log_image.proofs.Places.{count_of, some_sector, own_position}
 use Rattle.log_image.proofs.TornRing.{WholeLaws, IsTornRing, begins_before, whole_before, item_whole}
-use Rattle.log_image.proofs.Chains.{chain-bounds, chain-kept, chain-push, chain-unique}
+use Rattle.log_image.proofs.Chains.{chain-bounds, chain-kept, chain-push, chain-unique, chain-last}
 
 -- where a log lies
 pub record Bounds (ring : List Sector) (position : ℕ) (log : Log) : Type 0 where
@@ -269,3 +269,10 @@ log-unique laws ring anchor position next a b has_a has_b = elim (has_a.records)
     | inr none ↦ empty.1 ∙ sym none.1
   ]
 ]
+
+-- a log's records end with the last one
+pub ends_with : (laws : WholeLaws) (ring : List Sector) (anchor position : ℕ) (last : LogRecord) (log : Log) → IsLast ring position last → IsLogTo ring anchor last log
+    → (before : List LogRecord) × (log.records ≡ before ++ last ∷ [])
+ends_with laws ring anchor position last log is to =
+    let low : last.tail ≤ last.position = is.whole.form.tail in
+    chain-last laws ring log.tail to.chain.0 log.records log.end log.next last to.chain.2 is.whole to.end.0 is.greatest (omega (arith, to.tail))

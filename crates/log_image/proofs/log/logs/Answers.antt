@@ -1,4 +1,5 @@
 use Rattle.log_image.proofs.Homes.{image-unique, image_empty, zeros_below}
+use Rattle.log_image.proofs.RingLogs.{ends_with}
 use Rattle.log_image.proofs.Written.{image_bounds}
 use Rattle.log_image.proofs.log.logs.Goals as goal
 
@@ -15,3 +16,7 @@ returns-clause-empty c =
 
 pub returns-clause-zeros : goal.returns-clause-zeros
 returns-clause-zeros c = zeros_below
+
+pub returns-clause-last : goal.returns-clause-last
+returns-clause-last c =
+    ends_with (record { one = c.whole_records.ensures.one; places = c.whole_records.ensures.places; stamped = c.whole_records.ensures.stamped; counted = c.whole_records.ensures.counted })
