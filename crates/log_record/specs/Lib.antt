@@ -2,3 +2,4 @@ pub mod Spelling
 pub mod Whole
 pub mod Payload
 pub mod Outline
+pub mod Numbers

@@ -10,8 +10,8 @@ mod write;
 pub use image::{Commit, Image, ImageList};
 pub use laws::whole_records;
 pub use read::read_record;
-pub use record::{LogRecord, record_sectors};
-pub use write::{fill_record, record_bytes};
+pub use record::{LogRecord, RecordNumbers, record_sectors};
+pub use write::{fill_images, fill_record, record_bytes};
 
 #[cfg(test)]
 mod tests;

@@ -31,6 +31,19 @@ pub struct LogRecord {
     pub images: ImageList,
 }
 
+/// The numbers of a record, without its images.
+#[derive(Clone, Copy, Debug)]
+pub struct RecordNumbers {
+    /// The position of the record's first sector.
+    pub position: u64,
+    /// The position from which records still have images that may not be home.
+    pub tail: u64,
+    /// The number of the first commit.
+    pub first: u64,
+    /// The number of commits.
+    pub commits: u32,
+}
+
 /// The sectors that a record of so many images takes.
 pub fn record_sectors(images: u32) -> u32
     requires { images ≤ 128 }

@@ -4,10 +4,11 @@ ghost use Rattle.std.specs.List.{range_with_len, All};
 ghost use Rattle.life_bytes.specs.Fields.{with_piece, AreBytes};
 ghost use Rattle.life_bytes.specs.declared.sector.Sector.{Sector};
 ghost use Rattle.log_record.specs.Payload.{payload_of, stamps_of, AreSectors, HasStamps};
+ghost use Rattle.log_record.specs.Numbers.{record_of};
 ghost use Rattle.log_record.specs.Spelling.{FitsImage, IsRecord, FitsFields, header, image_bytes, sector_count, spelled, stamps};
 
 use crate::image::Image;
-use crate::record::{HEADER, IMAGE, LogRecord, PAYLOAD, STAMPS, record_sectors};
+use crate::record::{HEADER, IMAGE, LogRecord, PAYLOAD, RecordNumbers, STAMPS, record_sectors};
 use life_bytes::{Sector, put_u32, put_u64};
 use life_ports::NoMemory;
 use std::alloc::Global;
@@ -103,6 +104,23 @@ fn put_image(into: &mut [Sector], at: usize, image: &Image)
     put_payload(into, at + 8, &image.sector.bytes);
 }
 
+/// Writes the record with these numbers and images into as many sectors as it has.
+pub fn fill_images(numbers: &RecordNumbers, images: &[Image], into: &mut [Sector])
+    requires form { IsRecord (record_of numbers.now images.now) }
+    requires room { length into.old ≡ sector_count (length images.now) }
+    ensures spelled { into.new ≡ spelled (record_of numbers.now images.now) }
+    ensures fits { FitsFields (record_of numbers.now images.now) }
+{
+    stamp_all(into, numbers.position);
+    let header = header_bytes(numbers.tail, numbers.first, numbers.commits, images.len() as u32);
+    put_payload(into, 0, &header);
+    let mut at = HEADER;
+    for image in images {
+        put_image(into, at, image);
+        at += IMAGE;
+    }
+}
+
 /// Writes the record into as many sectors as it has.
 pub fn fill_record(item: &LogRecord, into: &mut [Sector])
     requires form { IsRecord item.now }
@@ -110,15 +128,13 @@ pub fn fill_record(item: &LogRecord, into: &mut [Sector])
     ensures spelled { into.new ≡ spelled item.now }
     ensures fits { FitsFields item.now }
 {
-    stamp_all(into, item.position);
-    let images = item.images.as_slice();
-    let header = header_bytes(item.tail, item.first, item.commits, images.len() as u32);
-    put_payload(into, 0, &header);
-    let mut at = HEADER;
-    for image in images {
-        put_image(into, at, image);
-        at += IMAGE;
-    }
+    let numbers = RecordNumbers {
+        position: item.position,
+        tail: item.tail,
+        first: item.first,
+        commits: item.commits,
+    };
+    fill_images(&numbers, item.images.as_slice(), into);
 }
 
 /// The sectors of a record.

@@ -1,16 +1,17 @@
 use Rattle.std.proofs.Common.{◌≡◌, ◌+◌, ◌*◌, ◌-◌, ◌++◌, length, take, replicate}
 use Rattle.std.specs.List.{flat_map, All}
+use Rattle.log_record.specs.Numbers.{record_of}
 use Rattle.log_record.specs.Payload.{AreSectors, HasStamps, payload_of}
 use Rattle.log_record.specs.Spelling.{FitsImage, image_bytes}
 use Rattle.log_record.proofs.Spelled.{header_of}
-use Rattle.log_record.proofs.write.fill_record.Given as goal
+use Rattle.log_record.proofs.write.fill_images.Given as goal
 
 abbrev pub invariant-loop-image : goal.invariant-loop-image
 invariant-loop-image l = record {
   place : l.at ≡ 32 + 520 * l.image-index;
   whole : AreSectors l.into;
-  stamps : HasStamps l.item.position l.into;
-  images : All FitsImage (take l.image-index l.item.images);
-  payload : payload_of l.into ≡ header_of l.item ++ flat_map image_bytes (take l.image-index l.item.images)
+  stamps : HasStamps l.numbers.position l.into;
+  images : All FitsImage (take l.image-index l.images);
+  payload : payload_of l.into ≡ header_of (record_of l.numbers l.images) ++ flat_map image_bytes (take l.image-index l.images)
       ++ replicate (496 * length l.into - l.at) 0;
 }

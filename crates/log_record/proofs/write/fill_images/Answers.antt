@@ -3,18 +3,19 @@ use Rattle.std.specs.List.{flat_map}
 use Rattle.std.proofs.lemmas.List.{append-nil, take_all, length-take-le}
 use Rattle.life_bytes.specs.Fields.{with_piece}
 use Rattle.log_record.specs.declared.image.Image.{Image}
+use Rattle.log_record.specs.Numbers.{record_of}
 use Rattle.log_record.specs.Payload.{payload_of}
 use Rattle.log_record.specs.Spelling.{FitsImage, header, image_bytes, payload, sector_count}
 use Rattle.log_record.proofs.Spelled.{header_of, length-header, length-images, with_piece-zeros, image_step, stamps_follow, more_images, spelled_from_parts}
-use Rattle.log_record.proofs.write.fill_record.Goals as goal
+use Rattle.log_record.proofs.write.fill_images.Goals as goal
 
 pub loop-image-init : goal.loop-image-init
 loop-image-init c =
-    let item = c.args.item.now in
+    let item = record_of c.args.numbers.now c.args.images.now in
     let blank = c.stamp_all.new.into in
     let head = c.header_bytes-header.result in
     let written : head ≡ header_of item =
-    c.header_bytes-header.ensures ∙ ap (λ (l : List Image). header item.tail item.first item.commits (length l)) c.as_slice-images.ensures in
+    c.header_bytes-header.ensures in
     let size : length head ≡ 32 = ap (λ (l : List ℕ). length l) written ∙ length-header item.tail item.first item.commits (length item.images) in
     let fits : 32 ≤ 496 * length blank = omega arith in
     let same : length c.put_payload.new.into ≡ length blank = c.put_payload.auto.into in
@@ -34,16 +35,16 @@ loop-image-init c =
 
 pub loop-image-preserved : goal.loop-image-preserved
 loop-image-preserved c =
-    let item = c.args.item.now in
+    let item = record_of c.args.numbers.now c.args.images.now in
     let images = item.images in
     let i = c.loop-image.image-index in
     let at = c.loop-image.at in
     let into = c.loop-image.into in
     let none : Image = record { home = 0; sector = record { bytes = [] } } in
-    let listed : c.as_slice-images.result.now ≡ images = c.as_slice-images.ensures in
+    let listed : c.args.images.now ≡ images = refl in
     let within : i < length images = omega (arith, ap (λ (l : List Image). length l) listed) in
     let same : length c.put_image.new.into ≡ length into = c.put_image.auto.into in
-    let read : get_or c.as_slice-images.result.now i none ≡ get_or images i none = ap (λ (l : List Image). get_or l i none) listed in
+    let read : get_or c.args.images.now i none ≡ get_or images i none = ap (λ (l : List Image). get_or l i none) listed in
     let is : FitsImage (get_or images i none) = subst FitsImage read c.put_image.ensures.image in
     let front : length (header_of item ++ flat_map image_bytes (take i images)) ≡ at =
     omega (
@@ -69,11 +70,11 @@ loop-image-preserved c =
 pub returns-clause-spelled : goal.returns-clause-spelled
 unfolding payload
 returns-clause-spelled c =
-    let item = c.args.item.now in
+    let item = record_of c.args.numbers.now c.args.images.now in
     let into = c.loop-image.into in
     let images = item.images in
     let m = length images in
-    let listed : length c.as_slice-images.result.now ≡ m = ap (λ (l : List Image). length l) c.as_slice-images.ensures in
+    let listed : length c.args.images.now ≡ m = refl in
     let all : take c.loop-image.image-index images ≡ images = take_all c.loop-image.image-index images (omega arith) in
     let count : length into ≡ sector_count m = omega arith in
     spelled_from_parts into item count c.loop-image.invariant.whole c.loop-image.invariant.stamps
