@@ -1,0 +1,5 @@
+pub mod Table
+pub mod Space
+pub mod Legal
+pub mod History
+pub mod WellFormed

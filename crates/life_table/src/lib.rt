@@ -1,0 +1,11 @@
+//! The model of an image: its inodes by number and generation, the calls on them with their replies, and which
+//! histories of calls are legal. Everything above is proved against these definitions; nothing here runs an image.
+#![tactic(auto)]
+
+mod key;
+mod list;
+mod types;
+
+pub use key::{Handle, Key};
+pub use list::Listed;
+pub use types::{Blocks, Call, Entries, Entry, Event, Froms, MountRecord, Reply, Row, Runs};
