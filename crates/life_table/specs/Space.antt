@@ -1,6 +1,6 @@
 -- What is free: blocks, numbers of inodes, and places for chunks.
-use Rattle.std.specs.Prelude.{◌≡◌, ◌==◌, ◌+◌, ◌-◌, ◌*◌, ◌/◌, ◌%◌, ◌<◌, ◌≤◌, ◌&&◌, ℕ, Bool, List, [], ◌∷◌, ◌++◌, Option, None, Some, IsSome, IsSomeAnd, IsTrue, is_some, is_none, if◌then◌else◌, nat_eq, nat_le, nat_lt, length, replicate, slice_get}
-use Rattle.std.specs.List.{count_by, filter, find, flat_map, list_all, range_with_len}
+use Rattle.std.specs.Prelude.{◌≡◌, ◌==◌, ◌+◌, ◌-◌, ◌*◌, ◌/◌, ◌%◌, ◌<◌, ◌≤◌, ◌&&◌, ℕ, Bool, List, [], ◌∷◌, ◌++◌, Option, None, Some, IsSome, IsSomeAnd, IsTrue, is_some, is_none, if◌then◌else◌, nat_le, nat_lt, length, replicate, slice_get}
+use Rattle.std.specs.List.{filter, find, flat_map, list_all, range_with_len}
 use Rattle.life_limits.specs.declared.TheConstants.{BLOCK_SECTORS, CHUNK_INODES, FIRST_DATA_BLOCK, GROUP_NUMBERS, MAX_CHUNKS, MAX_GENERATION}
 use Rattle.life_table.specs.declared.key.Key.{Key}
 use Rattle.life_table.specs.declared.types.Row.{Row}
@@ -8,7 +8,8 @@ use Rattle.life_table.specs.Table.{Inode, Chunk, Group, Table, inode_of}
 
 -- how often a block stands in a list
 unfoldable pub times : ℕ → List ℕ → ℕ
-times block blocks = count_by (nat_eq block) blocks
+times block [] = 0
+times block (other ∷ blocks) = (if block == other then 1 else 0) + times block blocks
 
 -- how many blocks a chunk has: 8
 abbrev pub chunk_length : ℕ

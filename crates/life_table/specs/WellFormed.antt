@@ -40,7 +40,7 @@ pub record IsGroup (blocks : ℕ) (group : Group) : Type 0 where
   pub few : length group ≤ MAX_CHUNKS
   pub ascends : Ascends group
   pub chunks : AllByRecursion IsChunk group
-  pub data_blocks : AllByRecursion (IsDataBlock blocks) (used group)
+  pub data_blocks : (block : ℕ) → 1 ≤ times block (used group) → IsDataBlock blocks block
   pub once : (block : ℕ) → times block (used group) ≤ 1
 
 -- a table within the limits, each group of which is well formed

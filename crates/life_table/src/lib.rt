@@ -3,9 +3,11 @@
 #![tactic(auto)]
 
 mod key;
+mod laws;
 mod list;
 mod types;
 
 pub use key::{Handle, Key};
+pub use laws::{no_key_comes_back, tables_stay_well_formed};
 pub use list::Listed;
 pub use types::{Blocks, Call, Entries, Entry, Event, Froms, MountRecord, Reply, Row, Runs};

@@ -1,0 +1,12 @@
+use Rattle.life_table.specs.declared.types.Event.TheVariants.{Called, Freed}
+use Rattle.life_table.proofs.WellKept.{IsTable-happens, IsTable-leads}
+use Rattle.life_table.proofs.laws.tables_stay_well_formed.Goals as goal
+
+pub returns-clause-call : goal.returns-clause-call
+returns-clause-call c t u called answer ok legal = IsTable-happens t (Called called answer) u ok legal
+
+pub returns-clause-free : goal.returns-clause-free
+returns-clause-free c t u key ok frees = IsTable-happens t (Freed key) u ok frees
+
+pub returns-clause-history : goal.returns-clause-history
+returns-clause-history c t u entries ok leads = IsTable-leads t entries u ok leads
