@@ -6,3 +6,4 @@ pub mod Tables
 pub mod Moves
 pub mod WellKept
 pub mod Lives
+pub mod Replies

@@ -150,3 +150,25 @@ freed t key = with_inode t key.number (record { generation = key.generation + 1;
 -- a free, and the table before and after: only a row that awaits is freed
 abbrev pub Frees : Table → Key → Table → Type 0
 Frees t key u = IsSomeAnd (row_of t key) Awaits × (u ≡ freed t key)
+
+-- a call that the table alone answers: each but Sync and Home, which the device answers
+abbrev pub IsOfTable : Call → Type 0
+IsOfTable call.Sync = ⊥
+IsOfTable call.Home = ⊥
+IsOfTable _ = ⊤
+
+-- there is a row, and somebody holds it
+abbrev pub IsOpen : Option Row → Type 0
+IsOpen o = IsSomeAnd o (λ row. 1 ≤ row.opens)
+
+-- some caller may make the call: its group is there, or its key is held; every key may be opened
+abbrev pub CanMake : Table → Call → Type 0
+CanMake t (call.Create g) = g < length t.groups
+CanMake t (call.Tmpfile g) = g < length t.groups
+CanMake t (call.CloseKey key) = IsOpen (row_of t key)
+CanMake t (call.Link key) = IsOpen (row_of t key)
+CanMake t (call.Unlink key) = IsOpen (row_of t key)
+CanMake t (call.Grow key count) = IsOpen (row_of t key)
+CanMake t (call.Cut key count) = IsOpen (row_of t key)
+CanMake t (call.Stat key) = IsOpen (row_of t key)
+CanMake t _ = ⊤
