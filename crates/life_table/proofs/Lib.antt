@@ -7,3 +7,9 @@ pub mod Moves
 pub mod WellKept
 pub mod Lives
 pub mod Replies
+pub mod Mapped
+pub mod Closed
+pub mod Recovery
+pub mod GivenBack
+pub mod Frees
+pub mod Holds

@@ -1,5 +1,5 @@
 -- Histories of a table, the changes in them, and what recovery leaves.
-use Rattle.std.specs.Prelude.{◌≡◌, ◌==◌, ◌+◌, ◌-◌, ◌<◌, ◌&&◌, ⊤, ℕ, Bool, true, false, List, [], ◌∷◌, ◌++◌, Option, None, Some, if◌then◌else◌, length, take}
+use Rattle.std.specs.Prelude.{◌≡◌, ◌==◌, ◌+◌, ◌-◌, ◌<◌, ◌&&◌, ⊤, ℕ, Bool, true, false, List, [], ◌∷◌, ◌++◌, Option, None, Some, if◌then◌else◌, length, map, take}
 use Rattle.std.specs.List.{count_by, filter}
 use Rattle.life_table.specs.declared.key.Key.{Key}
 use Rattle.life_table.specs.declared.types.Row.{Row}
@@ -10,7 +10,7 @@ use Rattle.life_table.specs.declared.types.Reply.TheVariants as reply
 use Rattle.life_table.specs.declared.types.Event.{Event}
 use Rattle.life_table.specs.declared.types.Event.TheVariants.{Called, Freed}
 use Rattle.life_table.specs.declared.types.Entry.{Entry}
-use Rattle.life_table.specs.Table.{Inode, Table, map_inodes}
+use Rattle.life_table.specs.Table.{Inode, Chunk, Group, Table, map_inodes}
 use Rattle.life_table.specs.Legal.{Legal, Frees, after_call, freed}
 
 -- an event, and the table before and after
@@ -134,3 +134,28 @@ recovered_inode inode = recovered_as inode.generation inode.row
 -- the table with every row without links freed
 abbrev pub recovered : Table → Table
 recovered t = map_inodes recovered_inode t
+
+-- how many rows have no link: of one inode's row, of inodes, of a group, of groups
+abbrev pub orphans_of : Option Row → ℕ
+orphans_of None = 0
+orphans_of (Some row) = if row.links == 0 then 1 else 0
+
+unfoldable pub orphans_in : List Inode → ℕ
+orphans_in [] = 0
+orphans_in (inode ∷ inodes) = orphans_of inode.row + orphans_in inodes
+
+unfoldable pub orphans_among : Group → ℕ
+orphans_among [] = 0
+orphans_among (chunk ∷ chunks) = orphans_in chunk.inodes + orphans_among chunks
+
+unfoldable pub orphans_all : List Group → ℕ
+orphans_all [] = 0
+orphans_all (group ∷ groups) = orphans_among group + orphans_all groups
+
+-- how many rows of the table have no link
+abbrev pub orphans : Table → ℕ
+orphans t = orphans_all t.groups
+
+-- the entries that free these keys
+abbrev pub frees_of : ℕ → List Key → List Entry
+frees_of actor keys = map (λ key. record { actor = actor; event = Freed key }) keys

@@ -1,5 +1,5 @@
 -- Which reply a call may have at a table, and the table after it.
-use Rattle.std.specs.Prelude.{◌≡◌, ◌≢◌, ◌+◌, ◌-◌, ◌<◌, ◌≤◌, ⊤, ℕ, List, [], ◌++◌, Option, None, Some, IsSomeAnd, IfSome, length, take}
+use Rattle.std.specs.Prelude.{◌≡◌, ◌≢◌, ◌+◌, ◌-◌, ◌<◌, ◌≤◌, ⊤, ℕ, List, [], ◌++◌, Option, None, Some, IsSomeAnd, IfSome, length, take, drop}
 use Rattle.life_limits.specs.declared.TheConstants.{MAX_EXTENTS, MAX_LINKS, MAX_PINS}
 use Rattle.extent_fork.specs.declared.extent.Extent.{Extent}
 use Rattle.extent_fork.specs.Runs.{runs}
@@ -16,9 +16,12 @@ use Rattle.life_table.specs.Space.{free_blocks, free_keys, lowest_key, chunk_pla
 abbrev pub Awaits : Row → Type 0
 Awaits row = (row.links ≡ 0) × (row.opens ≡ 0)
 
--- the free blocks of the key's group
+-- the free blocks of a group of the table, and of a key's group
+abbrev pub free_in : Table → ℕ → List ℕ
+free_in t g = free_blocks t.blocks (group_of t g)
+
 abbrev pub free_of : Table → Key → List ℕ
-free_of t key = free_blocks t.blocks (group_of t (group_number key))
+free_of t key = free_in t (group_number key)
 
 -- no number of the group is free, and no chunk can be added
 abbrev pub HasNoNumber : Table → ℕ → Type 0
@@ -38,6 +41,10 @@ grown_blocks t key count row = row.blocks ++ take count (free_of t key)
 -- the blocks of a row without the last so many
 abbrev pub cut_blocks : ℕ → Row → List ℕ
 cut_blocks count row = take (length row.blocks - count) row.blocks
+
+-- the last so many blocks of a row
+abbrev pub last_blocks : ℕ → Row → List ℕ
+last_blocks count row = drop (length row.blocks - count) row.blocks
 
 -- the table with the chunk added that a create in this group adds
 abbrev pub prepare : Table → ℕ → Table
@@ -172,3 +179,8 @@ CanMake t (call.Grow key count) = IsOpen (row_of t key)
 CanMake t (call.Cut key count) = IsOpen (row_of t key)
 CanMake t (call.Stat key) = IsOpen (row_of t key)
 CanMake t _ = ⊤
+
+-- each call but Cut
+abbrev pub IsNoCut : Call → Type 0
+IsNoCut (call.Cut key count) = ⊥
+IsNoCut _ = ⊤

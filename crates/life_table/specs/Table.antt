@@ -84,11 +84,12 @@ in_use key row = record { generation = key.generation; row = Some row }
 abbrev pub with_row : Table → Key → Row → Table
 with_row t key row = with_inode t key.number (in_use key row)
 
--- the table with each inode changed in this way
-unfoldable pub map_inodes : (Inode → Inode) → Table → Table
-map_inodes change t =
-    record {
-      version = t.version;
-      blocks = t.blocks;
-      groups = map (map (λ chunk. record { start = chunk.start; inodes = map change chunk.inodes })) t.groups;
-    }
+-- each inode changed in this way: of a chunk, of a group, of the table
+abbrev pub map_chunk : (Inode → Inode) → Chunk → Chunk
+map_chunk change chunk = record { start = chunk.start; inodes = map change chunk.inodes }
+
+abbrev pub map_group : (Inode → Inode) → Group → Group
+map_group change group = map (map_chunk change) group
+
+abbrev pub map_inodes : (Inode → Inode) → Table → Table
+map_inodes change t = record { version = t.version; blocks = t.blocks; groups = map (map_group change) t.groups }

@@ -1,14 +1,19 @@
 // What the definitions have been proved to mean: each law is the contract of a function that does nothing.
 
-ghost use Rattle.std.specs.Prelude.{◌≡◌, List, None, IsSome};
+ghost use Rattle.std.specs.Prelude.{◌≡◌, ◌≢◌, ◌≤◌, ◌+◌, ℕ, List, IsSome, length, take};
+ghost use Rattle.std.specs.Option.{option_map};
 ghost use Rattle.life_table.specs.declared.key.Key.{Key};
+ghost use Rattle.life_table.specs.declared.types.Row.{Row};
 ghost use Rattle.life_table.specs.declared.types.Call.{Call};
 ghost use Rattle.life_table.specs.declared.types.Reply.{Reply};
 ghost use Rattle.life_table.specs.declared.types.Entry.{Entry};
-ghost use Rattle.life_table.specs.Table.{Table, row_of};
-ghost use Rattle.life_table.specs.Legal.{Legal, Frees, IsOfTable, CanMake};
+ghost use Rattle.life_table.specs.Table.{Table, group_number, group_of, inode_of, row_of};
+ghost use Rattle.life_table.specs.Space.{times};
+ghost use Rattle.life_table.specs.Legal.{Legal, Frees, IsOfTable, CanMake, IsNoCut, free_in, free_of, last_blocks};
 ghost use Rattle.life_table.specs.WellFormed.{IsTable};
-ghost use Rattle.life_table.specs.History.{Leads};
+ghost use Rattle.life_table.specs.History.{Leads, After, changes, closed, recovered, recovered_inode, orphans, frees_of};
+
+use crate::types::{Call, Reply};
 
 /// A law: what legally happens to a well formed table leaves a well formed one. So no block comes to be in two rows,
 /// in a row and a chunk, or twice in one, and no number comes to have two rows.
@@ -16,6 +21,8 @@ pub fn tables_stay_well_formed()
     ensures call { (t u : Table) (called : Call) (answer : Reply) → IsTable t → Legal t called answer u → IsTable u }
     ensures free { (t u : Table) (key : Key) → IsTable t → Frees t key u → IsTable u }
     ensures history { (t u : Table) (entries : List Entry) → IsTable t → Leads t entries u → IsTable u }
+    ensures without_holds { (t : Table) → IsTable t → IsTable (closed t) }
+    ensures recovery { (t : Table) → IsTable t → IsTable (recovered t) }
 {}
 
 /// A law: a key that had a row and has none never has one again, whatever legally happens from then on. So a handle
@@ -29,4 +36,33 @@ pub fn no_key_comes_back()
 pub fn each_call_has_one_reply()
     ensures at_most_one { (t u v : Table) (called : Call) (first second : Reply) → IsOfTable called → Legal t called first u → Legal t called second v → (first ≡ second) × (u ≡ v) }
     ensures at_least_one { (t : Table) (called : Call) → IsOfTable called → CanMake t called → (answer : Reply) × (u : Table) × Legal t called answer u }
+{}
+
+/// A law: a free gives back the blocks of its row, each once, and touches no other group; a cut does so with the blocks
+/// that it takes away; and no other call makes a block free. So an unlinked file's blocks come back once.
+pub fn blocks_come_back_once()
+    ensures free { (t u : Table) (key : Key) (row : Row) (block : ℕ) → IsTable t → Frees t key u → row_of t key ≡ Some row → times block (free_of u key) ≡ times block (free_of t key) + times block row.blocks }
+    ensures free_elsewhere { (t u : Table) (key : Key) (g : ℕ) → Frees t key u → g ≢ group_number key → group_of u g ≡ group_of t g }
+    ensures cut { (t u : Table) (key : Key) (count : ℕ) (row : Row) (block : ℕ) → IsTable t → Legal t (Call.Cut key count) Reply.Done u → row_of t key ≡ Some row → times block (free_of u key) ≡ times block (free_of t key) + times block (last_blocks count row) }
+    ensures cut_elsewhere { (t u : Table) (key : Key) (count g : ℕ) → Legal t (Call.Cut key count) Reply.Done u → g ≢ group_number key → group_of u g ≡ group_of t g }
+    ensures other_calls { (t u : Table) (called : Call) (answer : Reply) (g block : ℕ) → IsTable t → Legal t called answer u → IsNoCut called → times block (free_in u g) ≤ times block (free_in t g) }
+{}
+
+/// A law: all changes of a history lead to the table of its end, none to that of its start, and the first so many to that
+/// of some moment between, each with no holds.
+pub fn changes_tell_the_table()
+    ensures all { (t u : Table) (entries : List Entry) → Leads t entries u → After t entries (length (changes entries)) ≡ closed u }
+    ensures none { (t : Table) (entries : List Entry) → After t entries 0 ≡ closed t }
+    ensures between { (t u : Table) (entries : List Entry) (n : ℕ) → Leads t entries u → (count : ℕ) × (middle : Table) × Leads t (take count entries) middle × (After t entries n ≡ closed middle) }
+{}
+
+/// A law: recovery ends the row of each inode without links once, by one rise of its generation, and leaves the other
+/// inodes. It is what the frees come to, one for each such row, in whichever order. No row without links is left, and
+/// a second recovery changes nothing.
+pub fn recovery_frees_once()
+    ensures each { (t : Table) (number : ℕ) → inode_of (recovered t) number ≡ option_map recovered_inode (inode_of t number) }
+    ensures by_frees { (t : Table) (actor : ℕ) → IsTable t → closed t ≡ t → (keys : List Key) × (length keys ≡ orphans t) × Leads t (frees_of actor keys) (recovered t) }
+    ensures any_order { (t u : Table) (actor : ℕ) (keys : List Key) → Leads t (frees_of actor keys) u → orphans u ≡ 0 → u ≡ recovered t }
+    ensures none_left { (t : Table) (key : Key) (row : Row) → row_of (recovered t) key ≡ Some row → 1 ≤ row.links }
+    ensures twice { (t : Table) → recovered (recovered t) ≡ recovered t }
 {}

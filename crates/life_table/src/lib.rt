@@ -8,6 +8,9 @@ mod list;
 mod types;
 
 pub use key::{Handle, Key};
-pub use laws::{each_call_has_one_reply, no_key_comes_back, tables_stay_well_formed};
+pub use laws::{
+    blocks_come_back_once, changes_tell_the_table, each_call_has_one_reply, no_key_comes_back,
+    recovery_frees_once, tables_stay_well_formed,
+};
 pub use list::Listed;
 pub use types::{Blocks, Call, Entries, Entry, Event, Froms, MountRecord, Reply, Row, Runs};

@@ -1,4 +1,5 @@
 use Rattle.life_table.specs.declared.types.Event.TheVariants.{Called, Freed}
+use Rattle.life_table.proofs.Frees.{IsTable-closed, IsTable-recovered}
 use Rattle.life_table.proofs.WellKept.{IsTable-happens, IsTable-leads}
 use Rattle.life_table.proofs.laws.tables_stay_well_formed.Goals as goal
 
@@ -10,3 +11,9 @@ returns-clause-free c t u key ok frees = IsTable-happens t (Freed key) u ok free
 
 pub returns-clause-history : goal.returns-clause-history
 returns-clause-history c t u entries ok leads = IsTable-leads t entries u ok leads
+
+pub returns-clause-without_holds : goal.returns-clause-without_holds
+returns-clause-without_holds c = IsTable-closed
+
+pub returns-clause-recovery : goal.returns-clause-recovery
+returns-clause-recovery c = IsTable-recovered
