@@ -13,3 +13,4 @@ pub mod Recovery
 pub mod GivenBack
 pub mod Frees
 pub mod Holds
+pub mod Numbers

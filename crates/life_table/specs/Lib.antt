@@ -3,3 +3,4 @@ pub mod Space
 pub mod Legal
 pub mod History
 pub mod WellFormed
+pub mod Handles

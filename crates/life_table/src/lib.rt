@@ -2,11 +2,13 @@
 //! histories of calls are legal. Everything above is proved against these definitions; nothing here runs an image.
 #![tactic(auto)]
 
+mod handle;
 mod key;
 mod laws;
 mod list;
 mod types;
 
+pub use handle::{print_handle, read_handle};
 pub use key::{Handle, Key};
 pub use laws::{
     blocks_come_back_once, changes_tell_the_table, each_call_has_one_reply, no_key_comes_back,
