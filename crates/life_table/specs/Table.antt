@@ -6,25 +6,15 @@ use Rattle.life_limits.specs.declared.TheConstants.{CHUNK_INODES, GROUP_NUMBERS}
 use Rattle.life_table.specs.declared.key.Key.{Key}
 use Rattle.life_table.specs.declared.types.Row.{Row}
 
--- an inode: the generation of the life that it is in or will be in next, and its row where it is in use
-pub record Inode : Type 0 where
-  pub generation : ℕ
-  pub row : Option Row
-
--- inodes that were allocated together: the number of the first one in its group, and the inodes in their order
-pub record Chunk : Type 0 where
-  pub start : ℕ
-  pub inodes : List Inode
+-- an inode has a generation, and a row where it is in use; a chunk has the number of its first inode in the group, and
+-- its inodes in order; a table has the version of the image, the number of blocks of each group, and the groups
+pub use Rattle.life_table.specs.declared.table.Inode.{Inode}
+pub use Rattle.life_table.specs.declared.table.Chunk.{Chunk}
+pub use Rattle.life_table.specs.declared.table.Table.{Table}
 
 -- a group: its chunks, by ascending start
 abbrev pub Group : Type 0
 Group = List Chunk
-
--- the version of the image, the number of blocks of each group, and the groups
-pub record Table : Type 0 where
-  pub version : ℕ
-  pub blocks : ℕ
-  pub groups : List Group
 
 -- a table of so many groups without a chunk
 abbrev pub empty_table : ℕ → ℕ → ℕ → Table

@@ -6,6 +6,7 @@ mod handle;
 mod key;
 mod laws;
 mod list;
+mod table;
 mod types;
 
 pub use handle::{print_handle, read_handle};
@@ -15,4 +16,5 @@ pub use laws::{
     recovery_frees_once, tables_stay_well_formed,
 };
 pub use list::Listed;
+pub use table::{Chunk, Group, Inode, Table};
 pub use types::{Blocks, Call, Entries, Entry, Event, Froms, MountRecord, Reply, Row, Runs};
