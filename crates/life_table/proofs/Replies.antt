@@ -12,25 +12,13 @@ use Rattle.life_table.specs.declared.types.Reply.{Reply}
 use Rattle.life_table.specs.declared.types.Reply.TheVariants as reply
 use Rattle.life_table.specs.Table.{Inode, Chunk, Group, Table, group_of, row_of}
 use Rattle.life_table.specs.Space.{keys_from, free_keys, lowest_key, chunk_place, new_chunk, insert_chunk, with_chunk, prepared}
+use Rattle.life_table.specs.Replies.{row_reply, key_reply, create_reply, reply_of}
 use Rattle.life_table.specs.Legal.{Awaits, free_of, grown_blocks, HasNoNumber, IsNextKey, RowReplies, KeyReplies, Permits, Legal, after_call, IsOfTable, IsOpen, CanMake}
-
--- the reply of a call on a row
-row_reply : Table → Row → Call → Reply
-row_reply t row (call.OpenKey key) = if row.links == 0 && row.opens == 0 then reply.Stale else (if row.opens == MAX_PINS then reply.Crowded else reply.Done)
-row_reply t row (call.Link key) = if row.links == MAX_LINKS then reply.TooManyLinks else reply.Done
-row_reply t row (call.Unlink key) = if row.links == 0 then reply.NoLinks else reply.Done
-row_reply t row (call.Grow key count) =
-    if nat_lt (length (free_of t key)) count then reply.NoSpace
-    else (if nat_lt MAX_EXTENTS (length (runs (grown_blocks t key count row))) then reply.TooManyExtents else reply.Done)
-row_reply t row (call.Cut key count) = if nat_lt (length row.blocks) count then reply.CutTooFar else reply.Done
-row_reply t row (call.Stat key) = reply.Shown key row.links (length row.blocks) (runs row.blocks)
-row_reply t row _ = reply.Done
 
 not_less : (a b : ℕ) → (a < b → ⊥) → nat_lt a b ≡ false
 not_less a b not = elim (cases_lt a b) [ inl less ↦ absurd (not less) | inr high ↦ le-ltb a b high ]
 
 row_only : (t : Table) (row : Row) (called : Call) (answer : Reply) → RowReplies t row called answer → answer ≡ row_reply t row called
-unfolding row_reply
 row_only t row (call.OpenKey key) reply.Stale h =
     let is : (row.links == 0 && row.opens == 0) ≡ true = and_from (row.links == 0) (row.opens == 0) (eq-eqb row.links 0 h.0) (eq-eqb row.opens 0 h.1) in
     rw is
@@ -76,7 +64,6 @@ IsOnKey (call.Stat key) = Unit {0}
 IsOnKey _ = ⊥
 
 row_some : (t : Table) (row : Row) (called : Call) → IsOnKey called → 1 ≤ row.opens → RowReplies t row called (row_reply t row called)
-unfolding row_reply
 row_some t row (call.CloseKey key) on held = held
 row_some t row (call.Link key) on held =
     elim (row.links == MAX_LINKS) as (λ c. row.links == MAX_LINKS ≡ c → RowReplies t row (call.Link key) (if c then reply.TooManyLinks else reply.Done)) [
@@ -109,7 +96,6 @@ row_some t row (call.Stat key) on held = (refl, refl, refl, refl)
 row_some t row _ on held = absurd on
 
 open_some : (t : Table) (row : Row) (key : Key) → RowReplies t row (call.OpenKey key) (row_reply t row (call.OpenKey key))
-unfolding row_reply
 open_some t row key =
     elim (row.links == 0 && row.opens == 0) as (λ c. (row.links == 0 && row.opens == 0) ≡ c
     → RowReplies t row (call.OpenKey key) (if c then reply.Stale else (if row.opens == MAX_PINS then reply.Crowded else reply.Done))) [
@@ -126,24 +112,16 @@ open_some t row key =
           ] refl
     ] refl
 
--- the same where the key may have no row
-key_reply : Table → Option Row → Call → Reply
-key_reply t None called = reply.Stale
-key_reply t (Some row) called = row_reply t row called
-
 key_only : (t : Table) (o : Option Row) (called : Call) (answer : Reply) → KeyReplies t o called answer → answer ≡ key_reply t o called
-unfolding key_reply
 key_only t None (call.OpenKey key) reply.Stale h = refl
 key_only t None _ _ h = absurd h
 key_only t (Some row) called answer h = row_only t row called answer h
 
 key_some : (t : Table) (o : Option Row) (called : Call) → IsOnKey called → IsOpen o → KeyReplies t o called (key_reply t o called)
-unfolding key_reply
 key_some t None called on held = absurd held
 key_some t (Some row) called on held = row_some t row called on held
 
 open_key_some : (t : Table) (o : Option Row) (key : Key) → KeyReplies t o (call.OpenKey key) (key_reply t o (call.OpenKey key))
-unfolding key_reply
 open_key_some t None key = tt
 open_key_some t (Some row) key = open_some t row key
 
@@ -208,25 +186,7 @@ finds_none blocks g group none =
 pub none_found : (blocks g : ℕ) (group : Group) → lowest_key g group ≡ None → chunk_place blocks group ≡ None → lowest_key g (prepared blocks g group) ≡ None
 none_found blocks g group none place = ap (lowest_key g) (prepared_as blocks g group None none place) ∙ none
 
-create_reply : Option Key → Reply
-create_reply None = reply.NoInodes
-create_reply (Some key) = reply.Made key
-
--- the reply of a call that the table answers
-reply_of : Table → Call → Reply
-reply_of t (call.Create g) = create_reply (lowest_key g (prepared t.blocks g (group_of t g)))
-reply_of t (call.Tmpfile g) = create_reply (lowest_key g (prepared t.blocks g (group_of t g)))
-reply_of t (call.OpenKey key) = key_reply t (row_of t key) (call.OpenKey key)
-reply_of t (call.CloseKey key) = key_reply t (row_of t key) (call.CloseKey key)
-reply_of t (call.Link key) = key_reply t (row_of t key) (call.Link key)
-reply_of t (call.Unlink key) = key_reply t (row_of t key) (call.Unlink key)
-reply_of t (call.Grow key count) = key_reply t (row_of t key) (call.Grow key count)
-reply_of t (call.Cut key count) = key_reply t (row_of t key) (call.Cut key count)
-reply_of t (call.Stat key) = key_reply t (row_of t key) (call.Stat key)
-reply_of t _ = reply.Done
-
 only : (t : Table) (called : Call) (answer : Reply) → IsOfTable called → Permits t called answer → answer ≡ reply_of t called
-unfolding reply_of create_reply
 only t (call.Create g) (reply.Made key) of h = ap create_reply (sym h.1)
 only t (call.Create g) reply.NoInodes of h = ap create_reply (sym (none_found t.blocks g (group_of t g) h.1.0 h.1.1))
 only t (call.Create g) _ of h = absurd h
@@ -255,17 +215,14 @@ one_reply t u v called first second of one other =
     (same, one.1 ∙ ap (after_call t called) same ∙ sym other.1)
 
 create_some : (t : Table) (g : ℕ) → g < length t.groups → (o : Option Key) → lowest_key g (prepared t.blocks g (group_of t g)) ≡ o → Permits t (call.Create g) (create_reply o)
-unfolding create_reply
 create_some t g low None is = (low, finds_none t.blocks g (group_of t g) is)
 create_some t g low (Some key) is = (low, is)
 
 tmpfile_some : (t : Table) (g : ℕ) → g < length t.groups → (o : Option Key) → lowest_key g (prepared t.blocks g (group_of t g)) ≡ o → Permits t (call.Tmpfile g) (create_reply o)
-unfolding create_reply
 tmpfile_some t g low None is = (low, finds_none t.blocks g (group_of t g) is)
 tmpfile_some t g low (Some key) is = (low, is)
 
-permitted : (t : Table) (called : Call) → IsOfTable called → CanMake t called → Permits t called (reply_of t called)
-unfolding reply_of
+pub permitted : (t : Table) (called : Call) → IsOfTable called → CanMake t called → Permits t called (reply_of t called)
 permitted t (call.Create g) of can = create_some t g can (lowest_key g (prepared t.blocks g (group_of t g))) refl
 permitted t (call.Tmpfile g) of can = tmpfile_some t g can (lowest_key g (prepared t.blocks g (group_of t g))) refl
 permitted t (call.OpenKey key) of can = open_key_some t (row_of t key) key

@@ -113,3 +113,11 @@ IsTable-happens t event u ok happens = IsTable-move t u ok (move_event t event u
 pub IsTable-leads : (t : Table) (entries : List Entry) (u : Table) → IsTable t → Leads t entries u → IsTable u
 IsTable-leads t [] u ok leads = subst IsTable (sym leads) ok
 IsTable-leads t (entry ∷ entries) u ok (next, first, rest) = IsTable-leads next entries u (IsTable-happens t entry.event next ok first) rest
+
+-- a row of a well formed table is within the limits
+pub row_within : (t : Table) (key : Key) (row : Row) → IsTable t → row_of t key ≡ Some row → IsRow key.generation row
+row_within t key row ok at =
+    let has = HasRow-from (inode_of t key.number) key.generation row at in
+    let inode = IsInode-of t key.number has.inode ok has.at in
+    let old : IsRow has.inode.generation row = row_is has.inode.generation has.inode.row row has.is inode.row in
+    subst (λ n. IsRow n row) has.life old

@@ -3,4 +3,5 @@ pub mod Space
 pub mod Legal
 pub mod History
 pub mod WellFormed
+pub mod Replies
 pub mod Handles

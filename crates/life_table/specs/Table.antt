@@ -5,7 +5,6 @@ use Rattle.std.specs.Option.{option_and_then}
 use Rattle.life_limits.specs.declared.TheConstants.{CHUNK_INODES, GROUP_NUMBERS}
 use Rattle.life_table.specs.declared.key.Key.{Key}
 use Rattle.life_table.specs.declared.types.Row.{Row}
-
 -- an inode has a generation, and a row where it is in use; a chunk has the number of its first inode in the group, and
 -- its inodes in order; a table has the version of the image, the number of blocks of each group, and the groups
 pub use Rattle.life_table.specs.declared.table.Inode.{Inode}

@@ -9,8 +9,9 @@ ghost use Rattle.life_table.specs.declared.types.Reply.{Reply};
 ghost use Rattle.life_table.specs.declared.types.Entry.{Entry};
 ghost use Rattle.life_table.specs.Table.{Table, group_number, group_of, inode_of, row_of};
 ghost use Rattle.life_table.specs.Space.{times};
-ghost use Rattle.life_table.specs.Legal.{Legal, Frees, IsOfTable, CanMake, IsNoCut, free_in, free_of, last_blocks};
-ghost use Rattle.life_table.specs.WellFormed.{IsTable};
+ghost use Rattle.life_table.specs.Legal.{Legal, Permits, Frees, IsOfTable, CanMake, IsNoCut, free_in, free_of, last_blocks};
+ghost use Rattle.life_table.specs.Replies.{reply_of};
+ghost use Rattle.life_table.specs.WellFormed.{IsTable, IsRow};
 ghost use Rattle.life_table.specs.History.{Leads, After, changes, closed, recovered, recovered_inode, orphans, frees_of};
 
 use crate::types::{Call, Reply};
@@ -36,6 +37,7 @@ pub fn no_key_comes_back()
 pub fn each_call_has_one_reply()
     ensures at_most_one { (t u v : Table) (called : Call) (first second : Reply) → IsOfTable called → Legal t called first u → Legal t called second v → (first ≡ second) × (u ≡ v) }
     ensures at_least_one { (t : Table) (called : Call) → IsOfTable called → CanMake t called → (answer : Reply) × (u : Table) × Legal t called answer u }
+    ensures computed { (t : Table) (called : Call) → IsOfTable called → CanMake t called → Permits t called (reply_of t called) }
 {}
 
 /// A law: a free gives back the blocks of its row, each once, and touches no other group; a cut does so with the blocks
@@ -65,4 +67,9 @@ pub fn recovery_frees_once()
     ensures any_order { (t u : Table) (actor : ℕ) (keys : List Key) → Leads t (frees_of actor keys) u → orphans u ≡ 0 → u ≡ recovered t }
     ensures none_left { (t : Table) (key : Key) (row : Row) → row_of (recovered t) key ≡ Some row → 1 ≤ row.links }
     ensures twice { (t : Table) → recovered (recovered t) ≡ recovered t }
+{}
+
+/// A law: a row of a well formed table is within the limits, and its key has a life that is not the last generation.
+pub fn rows_are_within_limits()
+    ensures { (t : Table) (key : Key) (row : Row) → IsTable t → row_of t key ≡ Some row → IsRow key.generation row }
 {}
