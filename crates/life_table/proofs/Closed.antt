@@ -14,7 +14,10 @@ use Rattle.life_table.specs.declared.types.Reply.TheVariants as reply
 use Rattle.life_table.specs.declared.types.Event.{Event}
 use Rattle.life_table.specs.declared.types.Event.TheVariants.{Called, Freed}
 use Rattle.life_table.specs.declared.types.Entry.{Entry}
-use Rattle.life_table.specs.Table.{Inode, Chunk, Group, Table, group_number, group_of, with_group, inode_of, row_in_life, row_of, with_row, in_use, with_inode, map_chunk, map_group, map_inodes}
+use Rattle.life_table.specs.declared.table.Inode.{Inode}
+use Rattle.life_table.specs.declared.table.Chunk.{Chunk}
+use Rattle.life_table.specs.declared.table.Table.{Table}
+use Rattle.life_table.specs.Table.{Group, group_number, group_of, with_group, inode_of, row_in_life, row_of, with_row, in_use, with_inode, map_chunk, map_group, map_inodes}
 use Rattle.life_table.specs.Space.{times, chunk_blocks, row_blocks, inode_blocks, used, is_free_block, free_blocks, begins_run, chunk_place, new_chunk, insert_chunk, is_free, keys_from, free_keys, lowest_key, with_chunk, prepared}
 use Rattle.life_table.specs.Legal.{free_of, grown_blocks, prepare, KeyReplies, Permits, made_row, row_after, with_changed, after_call, freed}
 use Rattle.life_table.specs.History.{Happens, Leads, changed, is_change, changes, after_event, after_entries, closed_row, closed_inode, closed, After}

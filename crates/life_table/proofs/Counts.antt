@@ -4,7 +4,9 @@ use Rattle.std.specs.List.{range_with_len, list_all}
 use Rattle.std.proofs.lemmas.Option.{none-some, same_Some}
 use Rattle.std.proofs.lemmas.Bool.{eqb-true, eqb-false, eq-eqb, ne_eqb, and_parts, cases_Bool, cases_eq, leb-true, ltb-true, le-leb, lt-ltb, le-ltb, true≢false}
 use Rattle.life_limits.specs.declared.TheConstants.{BLOCK_SECTORS, CHUNK_INODES, FIRST_DATA_BLOCK, MAX_CHUNKS}
-use Rattle.life_table.specs.Table.{Inode, Chunk, Group, inode_in, set_inode, start_of}
+use Rattle.life_table.specs.declared.table.Inode.{Inode}
+use Rattle.life_table.specs.declared.table.Chunk.{Chunk}
+use Rattle.life_table.specs.Table.{Group, inode_in, set_inode, start_of}
 use Rattle.life_table.specs.Space.{times, chunk_blocks, chunk_length, row_blocks, inode_blocks, used, is_free_block, free_blocks, new_chunk, insert_chunk}
 
 pub times-nil : (b : ℕ) → times b [] ≡ 0

@@ -9,7 +9,10 @@ use Rattle.life_table.specs.declared.key.Key.{Key}
 use Rattle.life_table.specs.declared.types.Row.{Row}
 use Rattle.life_table.specs.declared.types.Entry.{Entry}
 use Rattle.life_table.specs.declared.types.Event.TheVariants.{Freed}
-use Rattle.life_table.specs.Table.{Inode, Chunk, Group, Table, start_of, group_number, group_of, with_group, inode_in, inode_of, row_in_life, row_of, with_inode, set_inode, map_chunk, map_group, map_inodes}
+use Rattle.life_table.specs.declared.table.Inode.{Inode}
+use Rattle.life_table.specs.declared.table.Chunk.{Chunk}
+use Rattle.life_table.specs.declared.table.Table.{Table}
+use Rattle.life_table.specs.Table.{Group, start_of, group_number, group_of, with_group, inode_in, inode_of, row_in_life, row_of, with_inode, set_inode, map_chunk, map_group, map_inodes}
 use Rattle.life_table.specs.Space.{times, chunk_blocks, row_blocks, inode_blocks, used}
 use Rattle.life_table.specs.Legal.{Awaits, freed, Frees}
 use Rattle.life_table.specs.History.{Happens, Leads, closed_row, closed_inode, closed, recovered_as, recovered_inode, recovered, orphans_of, orphans_in, orphans_among, orphans_all, orphans, frees_of}

@@ -9,7 +9,10 @@ use Rattle.life_table.specs.declared.types.Call.{Call}
 use Rattle.life_table.specs.declared.types.Call.TheVariants as call
 use Rattle.life_table.specs.declared.types.Reply.{Reply}
 use Rattle.life_table.specs.declared.types.Reply.TheVariants as reply
-use Rattle.life_table.specs.Table.{Inode, Chunk, Group, Table, group_number, group_of, with_group, inode_in, inode_of, row_of, with_row, in_use, with_inode, set_inode}
+use Rattle.life_table.specs.declared.table.Inode.{Inode}
+use Rattle.life_table.specs.declared.table.Chunk.{Chunk}
+use Rattle.life_table.specs.declared.table.Table.{Table}
+use Rattle.life_table.specs.Table.{Group, group_number, group_of, with_group, inode_in, inode_of, row_of, with_row, in_use, with_inode, set_inode}
 use Rattle.life_table.specs.Space.{times, chunk_blocks, inode_blocks, row_blocks, used, is_free_block, free_blocks, lowest_key, chunk_place, new_chunk, insert_chunk, with_chunk, prepared}
 use Rattle.life_table.specs.Legal.{Awaits, free_in, free_of, grown_blocks, cut_blocks, last_blocks, prepare, IsNextKey, KeyReplies, Permits, Legal, made_row, row_after, with_changed, after_call, freed, Frees, IsNoCut}
 use Rattle.life_table.specs.WellFormed.{IsGroup, IsTable, IsDataBlock}

@@ -7,7 +7,10 @@ use Rattle.life_table.specs.declared.key.Key.{Key}
 use Rattle.life_table.specs.declared.types.Row.{Row}
 use Rattle.life_table.specs.declared.types.Entry.{Entry}
 use Rattle.life_table.specs.declared.types.Event.{Event}
-use Rattle.life_table.specs.Table.{Inode, Chunk, Group, Table, start_of, group_number, group_of, with_group, inode_in, inode_of, row_in_life, row_of, with_row, in_use, with_inode}
+use Rattle.life_table.specs.declared.table.Inode.{Inode}
+use Rattle.life_table.specs.declared.table.Chunk.{Chunk}
+use Rattle.life_table.specs.declared.table.Table.{Table}
+use Rattle.life_table.specs.Table.{Group, start_of, group_number, group_of, with_group, inode_in, inode_of, row_in_life, row_of, with_row, in_use, with_inode}
 use Rattle.life_table.specs.Space.{lowest_key, chunk_place, new_chunk, insert_chunk, with_chunk, prepared}
 use Rattle.life_table.specs.Legal.{prepare, made_row, freed}
 use Rattle.life_table.specs.History.{Happens, Leads}

@@ -5,7 +5,10 @@ use Rattle.std.proofs.lemmas.Option.{none-some, same_Some}
 use Rattle.std.proofs.lemmas.List.{get_or-set_same, get_or-set_other}
 use Rattle.std.proofs.lemmas.Bool.{eqb-true, eqb-false, eq-eqb, ne_eqb, cases_Bool, cases_eq, cases_lt}
 use Rattle.life_limits.specs.declared.TheConstants.{CHUNK_INODES, GROUP_NUMBERS}
-use Rattle.life_table.specs.Table.{Inode, Chunk, Group, Table, inode_in, set_inode, start_of, group_of, with_group, inode_of, with_inode}
+use Rattle.life_table.specs.declared.table.Inode.{Inode}
+use Rattle.life_table.specs.declared.table.Chunk.{Chunk}
+use Rattle.life_table.specs.declared.table.Table.{Table}
+use Rattle.life_table.specs.Table.{Group, inode_in, set_inode, start_of, group_of, with_group, inode_of, with_inode}
 use Rattle.life_table.specs.Space.{insert_chunk}
 
 -- one element changed

@@ -4,7 +4,10 @@ use Rattle.std.proofs.lemmas.Option.{none-some, same_Some, slice_get-map}
 use Rattle.std.proofs.lemmas.List.{map-set, set-get_or}
 use Rattle.std.proofs.Math.ListN.{get_or-map}
 use Rattle.life_limits.specs.declared.TheConstants.{CHUNK_INODES, GROUP_NUMBERS}
-use Rattle.life_table.specs.Table.{Inode, Chunk, Group, Table, start_of, inode_in, set_inode, group_of, with_group, inode_of, with_inode, map_chunk, map_group, map_inodes}
+use Rattle.life_table.specs.declared.table.Inode.{Inode}
+use Rattle.life_table.specs.declared.table.Chunk.{Chunk}
+use Rattle.life_table.specs.declared.table.Table.{Table}
+use Rattle.life_table.specs.Table.{Group, start_of, inode_in, set_inode, group_of, with_group, inode_of, with_inode, map_chunk, map_group, map_inodes}
 
 -- the inode of a number is the changed one
 inode_in-map : (change : Inode → Inode) (group : Group) (agino : ℕ) → inode_in (map_group change group) agino ≡ option_map change (inode_in group agino)

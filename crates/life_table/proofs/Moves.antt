@@ -11,7 +11,9 @@ use Rattle.life_table.specs.declared.types.Call.{Call}
 use Rattle.life_table.specs.declared.types.Call.TheVariants as call
 use Rattle.life_table.specs.declared.types.Reply.{Reply}
 use Rattle.life_table.specs.declared.types.Reply.TheVariants as reply
-use Rattle.life_table.specs.Table.{Inode, Table, group_number, group_of, inode_of, row_in_life, row_of, with_row}
+use Rattle.life_table.specs.declared.table.Inode.{Inode}
+use Rattle.life_table.specs.declared.table.Table.{Table}
+use Rattle.life_table.specs.Table.{group_number, group_of, inode_of, row_in_life, row_of, with_row}
 use Rattle.life_table.specs.Space.{times}
 use Rattle.life_table.specs.Legal.{Awaits, free_of, Short, grown_blocks, cut_blocks, prepare, IsNextKey, KeyReplies, RowReplies, made_row, row_after, with_changed, after_call, Permits, Legal, freed, Frees}
 use Rattle.life_table.specs.declared.types.Event.{Event}

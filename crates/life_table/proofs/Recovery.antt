@@ -4,7 +4,9 @@ use Rattle.std.proofs.lemmas.Option.{none-some, same_Some}
 use Rattle.std.proofs.lemmas.Bool.{eqb-true, eqb-false, eq-eqb, true≢false, cases_lt}
 use Rattle.life_table.specs.declared.key.Key.{Key}
 use Rattle.life_table.specs.declared.types.Row.{Row}
-use Rattle.life_table.specs.Table.{Inode, Table, inode_of, row_of, with_inode, map_inodes}
+use Rattle.life_table.specs.declared.table.Inode.{Inode}
+use Rattle.life_table.specs.declared.table.Table.{Table}
+use Rattle.life_table.specs.Table.{inode_of, row_of, with_inode, map_inodes}
 use Rattle.life_table.specs.Legal.{Awaits, freed, Frees}
 use Rattle.life_table.specs.History.{recovered_as, recovered_inode, recovered}
 use Rattle.life_table.proofs.Mapped.{inode_of-map, with_inode-map, with_inode-itself, map_inodes-twice}

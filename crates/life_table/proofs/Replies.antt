@@ -10,7 +10,10 @@ use Rattle.life_table.specs.declared.types.Call.{Call}
 use Rattle.life_table.specs.declared.types.Call.TheVariants as call
 use Rattle.life_table.specs.declared.types.Reply.{Reply}
 use Rattle.life_table.specs.declared.types.Reply.TheVariants as reply
-use Rattle.life_table.specs.Table.{Inode, Chunk, Group, Table, group_of, row_of}
+use Rattle.life_table.specs.declared.table.Inode.{Inode}
+use Rattle.life_table.specs.declared.table.Chunk.{Chunk}
+use Rattle.life_table.specs.declared.table.Table.{Table}
+use Rattle.life_table.specs.Table.{Group, group_of, row_of}
 use Rattle.life_table.specs.Space.{keys_from, free_keys, lowest_key, chunk_place, new_chunk, insert_chunk, with_chunk, prepared}
 use Rattle.life_table.specs.Replies.{row_reply, key_reply, create_reply, reply_of}
 use Rattle.life_table.specs.Legal.{Awaits, free_of, grown_blocks, HasNoNumber, IsNextKey, RowReplies, KeyReplies, Permits, Legal, after_call, IsOfTable, IsOpen, CanMake}

@@ -2,7 +2,10 @@
 use Rattle.std.proofs.Common.{◌≡◌, ◌≢◌, ◌+◌, ◌*◌, ◌/◌, ◌%◌, ◌<◌, ◌≤◌, ◌⊎◌, ℕ, zero, suc, List, [], ◌∷◌, Option, None, Some, length, slice_get, slice_set, slice_index_or, refl, sym, ap, subst, ◌∙◌, inl, inr, arith, length-set}
 use Rattle.std.specs.List.{AllByRecursion}
 use Rattle.life_limits.specs.declared.TheConstants.{GROUP_NUMBERS, MAX_GROUPS}
-use Rattle.life_table.specs.Table.{Inode, Chunk, Group, Table, group_of, with_group, inode_of, with_inode}
+use Rattle.life_table.specs.declared.table.Inode.{Inode}
+use Rattle.life_table.specs.declared.table.Chunk.{Chunk}
+use Rattle.life_table.specs.declared.table.Table.{Table}
+use Rattle.life_table.specs.Table.{Group, group_of, with_group, inode_of, with_inode}
 use Rattle.life_table.specs.Space.{times, used}
 use Rattle.life_table.specs.Legal.{prepare}
 use Rattle.life_table.specs.WellFormed.{IsInode, IsGroup, IsTable}

@@ -6,7 +6,9 @@ use Rattle.life_table.specs.declared.key.Key.{Key}
 use Rattle.life_table.specs.declared.types.Row.{Row}
 use Rattle.life_table.specs.declared.types.Entry.{Entry}
 use Rattle.life_table.specs.declared.types.Event.{Event}
-use Rattle.life_table.specs.Table.{Inode, Group, Table, group_number, group_of, inode_in, inode_of, row_of, with_row, in_use, with_inode}
+use Rattle.life_table.specs.declared.table.Inode.{Inode}
+use Rattle.life_table.specs.declared.table.Table.{Table}
+use Rattle.life_table.specs.Table.{Group, group_number, group_of, inode_in, inode_of, row_of, with_row, in_use, with_inode}
 use Rattle.life_table.specs.Space.{times, row_blocks, free_blocks, is_free_block, prepared}
 use Rattle.life_table.specs.Legal.{Awaits, free_of, prepare, IsNextKey, made_row, freed}
 use Rattle.life_table.specs.History.{Happens, Leads}

@@ -9,7 +9,9 @@ use Rattle.life_table.specs.declared.types.Call.{Call}
 use Rattle.life_table.specs.declared.types.Call.TheVariants as call
 use Rattle.life_table.specs.declared.types.Reply.{Reply}
 use Rattle.life_table.specs.declared.types.Reply.TheVariants as reply
-use Rattle.life_table.specs.Table.{Inode, Group, Table, group_number, group_of, with_group, inode_of, with_inode, row_of, with_row, in_use}
+use Rattle.life_table.specs.declared.table.Inode.{Inode}
+use Rattle.life_table.specs.declared.table.Table.{Table}
+use Rattle.life_table.specs.Table.{Group, group_number, group_of, with_group, inode_of, with_inode, row_of, with_row, in_use}
 use Rattle.life_table.specs.Space.{free_blocks, free_keys, lowest_key, chunk_place, prepared}
 
 -- the row has neither a link nor a hold: it awaits being freed

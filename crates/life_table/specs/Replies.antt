@@ -8,7 +8,8 @@ use Rattle.life_table.specs.declared.types.Call.{Call}
 use Rattle.life_table.specs.declared.types.Call.TheVariants as call
 use Rattle.life_table.specs.declared.types.Reply.{Reply}
 use Rattle.life_table.specs.declared.types.Reply.TheVariants as reply
-use Rattle.life_table.specs.Table.{Table, group_of, row_of}
+use Rattle.life_table.specs.declared.table.Table.{Table}
+use Rattle.life_table.specs.Table.{group_of, row_of}
 use Rattle.life_table.specs.Space.{lowest_key, prepared}
 use Rattle.life_table.specs.Legal.{free_of, grown_blocks}
 

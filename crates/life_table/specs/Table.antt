@@ -1,15 +1,16 @@
 -- The table: the inodes of an image, by number and generation, as lists. Equal tables are equal values, since the
--- chunks of a group ascend, and a change of one inode changes its place in one group alone.
+-- chunks of a group ascend, and a change of one inode changes its place in one group alone. An inode has the generation
+-- of the life that it is in or will be in next, and a row where it is in use; a chunk has the number of its first inode
+-- in the group, and its inodes in order; a table has the version of the image, the number of blocks of each group, and
+-- the groups (src/table.rt).
 use Rattle.std.specs.Prelude.{◌≡◌, ◌==◌, ◌+◌, ◌-◌, ◌*◌, ◌/◌, ◌%◌, ℕ, List, [], ◌∷◌, Option, None, Some, if◌then◌else◌, map, replicate, slice_get, slice_set, slice_index_or}
 use Rattle.std.specs.Option.{option_and_then}
 use Rattle.life_limits.specs.declared.TheConstants.{CHUNK_INODES, GROUP_NUMBERS}
 use Rattle.life_table.specs.declared.key.Key.{Key}
 use Rattle.life_table.specs.declared.types.Row.{Row}
--- an inode has a generation, and a row where it is in use; a chunk has the number of its first inode in the group, and
--- its inodes in order; a table has the version of the image, the number of blocks of each group, and the groups
-pub use Rattle.life_table.specs.declared.table.Inode.{Inode}
-pub use Rattle.life_table.specs.declared.table.Chunk.{Chunk}
-pub use Rattle.life_table.specs.declared.table.Table.{Table}
+use Rattle.life_table.specs.declared.table.Inode.{Inode}
+use Rattle.life_table.specs.declared.table.Chunk.{Chunk}
+use Rattle.life_table.specs.declared.table.Table.{Table}
 
 -- a group: its chunks, by ascending start
 abbrev pub Group : Type 0

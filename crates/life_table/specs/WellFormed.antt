@@ -4,7 +4,10 @@ use Rattle.std.specs.List.{AllByRecursion}
 use Rattle.life_limits.specs.declared.TheConstants.{CHUNK_INODES, FIRST_DATA_BLOCK, MAX_BLOCKS, MAX_CHUNKS, MAX_EXTENTS, MAX_GENERATION, MAX_GROUPS, MAX_LINKS, MAX_PINS, MIN_BLOCKS, VERSION}
 use Rattle.extent_fork.specs.Runs.{runs}
 use Rattle.life_table.specs.declared.types.Row.{Row}
-use Rattle.life_table.specs.Table.{Inode, Chunk, Group, Table}
+use Rattle.life_table.specs.declared.table.Inode.{Inode}
+use Rattle.life_table.specs.declared.table.Chunk.{Chunk}
+use Rattle.life_table.specs.declared.table.Table.{Table}
+use Rattle.life_table.specs.Table.{Group}
 use Rattle.life_table.specs.Space.{times, used}
 
 -- a row in the life of this generation, within the limits; the last generation has no life
