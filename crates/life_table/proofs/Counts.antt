@@ -1,6 +1,6 @@
 -- How often blocks stand in lists, in the parts of a group, and among the free ones.
 use Rattle.std.proofs.Common.{◌≡◌, ◌≢◌, ◌==◌, ◌+◌, ◌-◌, ◌*◌, ◌/◌, ◌%◌, ◌<◌, ◌≤◌, ◌&&◌, ◌⊎◌, ℕ, zero, suc, Bool, true, false, cond, List, [], ◌∷◌, ◌++◌, Option, None, Some, if◌then◌else◌, nat_le, nat_lt, length, take, filter, find, flat_map, slice_get, slice_set, replicate, refl, sym, ap, subst, ◌∙◌, inl, inr, arith}
-use Rattle.std.specs.List.{range_with_len, list_all}
+use Rattle.std.specs.List.{range_with_len, AllByRecursion}
 use Rattle.std.proofs.lemmas.Option.{none-some, same_Some}
 use Rattle.std.proofs.lemmas.Bool.{eqb-true, eqb-false, eq-eqb, ne_eqb, and_parts, cases_Bool, cases_eq, leb-true, ltb-true, le-leb, lt-ltb, le-ltb, true≢false}
 use Rattle.life_limits.specs.declared.TheConstants.{BLOCK_SECTORS, CHUNK_INODES, FIRST_DATA_BLOCK, MAX_CHUNKS}
@@ -207,3 +207,73 @@ pub times-chunk_outside : (b : ℕ) (chunk : Chunk) → (b < chunk.start / BLOCK
 unfolding chunk_blocks
 times-chunk_outside b chunk (inl low) = times-range_below b (chunk.start / BLOCK_SECTORS) 8 low
 times-chunk_outside b chunk (inr high) = times-range_past b (chunk.start / BLOCK_SECTORS) 8 high
+
+-- how many of the numbers below n stand in a list, each as often as it stands
+count_below : ℕ → List ℕ → ℕ
+count_below zero xs = 0
+count_below (suc n) xs = times n xs + count_below n xs
+
+count_one : (n x : ℕ) → ℕ
+count_one zero x = 0
+count_one (suc n) x = (if n == x then 1 else 0) + count_one n x
+
+count_one-past : (n x : ℕ) → n ≤ x → count_one n x ≡ 0
+unfolding count_one
+count_one-past zero x high = refl
+count_one-past (suc n) x high =
+    let rest = count_one-past n x (omega arith) in
+    let other : (n == x) ≡ false = ne_eqb n x (λ e. omega arith) in
+    rw (other, rest)
+
+count_one-here : (n x : ℕ) → x < n → count_one n x ≡ 1
+unfolding count_one
+count_one-here zero x low = absurd (omega arith)
+count_one-here (suc n) x low =
+    elim (cases_eq n x) [
+      | inl same ↦
+          let rest = count_one-past n x (omega arith) in
+          let here : (n == x) ≡ true = eq-eqb n x same in
+          rw (here, rest)
+      | inr apart ↦
+          let rest = count_one-here n x (omega arith) in
+          let other : (n == x) ≡ false = ne_eqb n x apart in
+          rw (other, rest)
+    ]
+
+count_below-nil : (n : ℕ) → count_below n [] ≡ 0
+unfolding count_below times
+count_below-nil zero = refl
+count_below-nil (suc n) = let rest = count_below-nil n in omega (arith, rest)
+
+count_below-cons : (n x : ℕ) (xs : List ℕ) → count_below n (x ∷ xs) ≡ count_one n x + count_below n xs
+unfolding count_below count_one times
+count_below-cons zero x xs = omega arith
+count_below-cons (suc n) x xs = let rest = count_below-cons n x xs in omega (arith, rest)
+
+count_below-all : (n : ℕ) (xs : List ℕ) → AllByRecursion (λ x. x < n) xs → count_below n xs ≡ length xs
+count_below-all n [] all = count_below-nil n
+count_below-all n (x ∷ xs) all =
+    let one = count_one-here n x all.0 in
+    let rest = count_below-all n xs all.1 in
+    let cons = count_below-cons n x xs in
+    omega (arith, one, rest, cons)
+
+count_below-once : (n : ℕ) (xs : List ℕ) → ((b : ℕ) → times b xs ≤ 1) → count_below n xs ≤ n
+unfolding count_below
+count_below-once zero xs once = omega arith
+count_below-once (suc n) xs once = let rest = count_below-once n xs once in let here = once n in omega (arith, rest, here)
+
+-- of numbers below n of which none stands twice there are at most n
+pub length-once : (n : ℕ) (xs : List ℕ) → AllByRecursion (λ x. x < n) xs → ((b : ℕ) → times b xs ≤ 1) → length xs ≤ n
+length-once n xs all once =
+    let count = count_below-all n xs all in
+    let few = count_below-once n xs once in
+    omega (arith, count, few)
+
+-- what holds of each block that stands in a list holds of each element
+pub all-by_times : (P : ℕ → Type 0) (xs : List ℕ) → ((b : ℕ) → 1 ≤ times b xs → P b) → AllByRecursion P xs
+unfolding times
+all-by_times P [] each = tt
+all-by_times P (x ∷ xs) each =
+    let here : (x == x) ≡ true = eq-eqb x x refl in
+    (each x (rw here (omega arith)), all-by_times P xs (λ b some. each b (omega (arith, some))))

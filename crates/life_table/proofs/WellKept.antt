@@ -1,5 +1,6 @@
 -- What happens to a well formed table leaves a well formed one.
 use Rattle.std.proofs.Common.{◌≡◌, ◌≢◌, ◌==◌, ◌+◌, ◌*◌, ◌/◌, ◌%◌, ◌<◌, ◌≤◌, ◌⊎◌, ℕ, zero, suc, Bool, true, false, List, [], ◌∷◌, Option, None, Some, IfSome, length, refl, sym, ap, subst, ◌∙◌, inl, inr, arith}
+use Rattle.std.specs.List.{AllByRecursion}
 use Rattle.std.proofs.lemmas.Bool.{cases_Bool}
 use Rattle.life_limits.specs.declared.TheConstants.{GROUP_NUMBERS, MAX_GENERATION}
 use Rattle.life_table.specs.declared.key.Key.{Key}
@@ -9,12 +10,12 @@ use Rattle.life_table.specs.declared.types.Event.{Event}
 use Rattle.life_table.specs.declared.table.Inode.{Inode}
 use Rattle.life_table.specs.declared.table.Table.{Table}
 use Rattle.life_table.specs.Table.{Group, group_number, group_of, inode_in, inode_of, row_of, with_row, in_use, with_inode}
-use Rattle.life_table.specs.Space.{times, row_blocks, free_blocks, is_free_block, prepared}
+use Rattle.life_table.specs.Space.{times, used, row_blocks, free_blocks, is_free_block, prepared}
 use Rattle.life_table.specs.Legal.{Awaits, free_of, prepare, IsNextKey, made_row, freed}
 use Rattle.life_table.specs.History.{Happens, Leads}
-use Rattle.life_table.specs.WellFormed.{IsRow, IsInode, IsTable}
-use Rattle.life_table.proofs.Counts.{times-free, times-not_free, times-nil, times-set_inode, is_free_block-parts}
-use Rattle.life_table.proofs.Groups.{TakesOnlyFree}
+use Rattle.life_table.specs.WellFormed.{IsRow, IsInode, IsGroup, IsTable, IsDataBlock}
+use Rattle.life_table.proofs.Counts.{times-free, times-not_free, times-nil, times-set_inode, is_free_block-parts, all-by_times, length-once}
+use Rattle.life_table.proofs.Groups.{TakesOnlyFree, AllByRecursion-weaker}
 use Rattle.life_table.proofs.Keys.{IsFreeAt, IsFreeAt-lowest, IsGroup-prepared}
 use Rattle.life_table.proofs.Lookups.{group_of-with_same}
 use Rattle.life_table.proofs.Moves.{Move, Stays, Turns, Makes, Ends, Changes, HasRow, HasRow-from, move_event}
@@ -123,3 +124,24 @@ row_within t key row ok at =
     let inode = IsInode-of t key.number has.inode ok has.at in
     let old : IsRow has.inode.generation row = row_is has.inode.generation has.inode.row row has.is inode.row in
     subst (λ n. IsRow n row) has.life old
+
+-- a row has no block oftener than its group
+row_times : (t : Table) (key : Key) (row : Row) (b : ℕ) → row_of t key ≡ Some row → times b row.blocks ≤ times b (used (group_of t (group_number key)))
+unfolding inode_of
+row_times t key row b at =
+    let has = HasRow-from (inode_of t key.number) key.generation row at in
+    let moved = times-set_inode b (group_of t (group_number key)) (key.number % GROUP_NUMBERS) has.inode (record { generation = 0; row = None }) has.at in
+    let none = times-nil b in
+    let same : times b (row_blocks has.inode.row) ≡ times b row.blocks = ap (λ o. times b (row_blocks o)) has.is in
+    omega (arith, moved, none, same)
+
+-- the blocks of a row are data blocks, and at most as many as the group has
+pub row_blocks_within : (t : Table) (key : Key) (row : Row) → IsTable t → row_of t key ≡ Some row → AllByRecursion (IsDataBlock t.blocks) row.blocks
+row_blocks_within t key row ok at =
+    all-by_times (IsDataBlock t.blocks) row.blocks (λ b some. let few = row_times t key row b at in (IsGroup-group_of t (group_number key) ok).data_blocks b (omega (arith, some, few)))
+
+pub row_blocks_few : (t : Table) (key : Key) (row : Row) → IsTable t → row_of t key ≡ Some row → length row.blocks ≤ t.blocks
+row_blocks_few t key row ok at =
+    length-once t.blocks row.blocks
+    (AllByRecursion-weaker (IsDataBlock t.blocks) (λ b. b < t.blocks) row.blocks (λ b inside. inside.1) (row_blocks_within t key row ok at))
+    (λ b. let few = row_times t key row b at in let once = (IsGroup-group_of t (group_number key) ok).once b in omega (arith, few, once))

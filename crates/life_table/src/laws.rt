@@ -1,6 +1,7 @@
 // What the definitions have been proved to mean: each law is the contract of a function that does nothing.
 
 ghost use Rattle.std.specs.Prelude.{◌≡◌, ◌≢◌, ◌≤◌, ◌+◌, ℕ, List, IsSome, length, take};
+ghost use Rattle.std.specs.List.{AllByRecursion};
 ghost use Rattle.std.specs.Option.{option_map};
 ghost use Rattle.life_table.specs.declared.key.Key.{Key};
 ghost use Rattle.life_table.specs.declared.types.Row.{Row};
@@ -12,7 +13,7 @@ ghost use Rattle.life_table.specs.Table.{group_number, group_of, inode_of, row_o
 ghost use Rattle.life_table.specs.Space.{times};
 ghost use Rattle.life_table.specs.Legal.{Legal, Permits, Frees, IsOfTable, CanMake, IsNoCut, free_in, free_of, last_blocks};
 ghost use Rattle.life_table.specs.Replies.{reply_of};
-ghost use Rattle.life_table.specs.WellFormed.{IsTable, IsRow};
+ghost use Rattle.life_table.specs.WellFormed.{IsDataBlock, IsRow, IsTable};
 ghost use Rattle.life_table.specs.History.{Leads, After, changes, closed, recovered, recovered_inode, orphans, frees_of};
 
 use crate::types::{Call, Reply};
@@ -70,7 +71,10 @@ pub fn recovery_frees_once()
     ensures twice { (t : Table) → recovered (recovered t) ≡ recovered t }
 {}
 
-/// A law: a row of a well formed table is within the limits, and its key has a life that is not the last generation.
+/// A law: a row of a well formed table is within the limits, its key has a life that is not the last generation, and its
+/// blocks are data blocks, at most as many as its group has.
 pub fn rows_are_within_limits()
-    ensures { (t : Table) (key : Key) (row : Row) → IsTable t → row_of t key ≡ Some row → IsRow key.generation row }
+    ensures limits { (t : Table) (key : Key) (row : Row) → IsTable t → row_of t key ≡ Some row → IsRow key.generation row }
+    ensures blocks { (t : Table) (key : Key) (row : Row) → IsTable t → row_of t key ≡ Some row → AllByRecursion (IsDataBlock t.blocks) row.blocks }
+    ensures few { (t : Table) (key : Key) (row : Row) → IsTable t → row_of t key ≡ Some row → length row.blocks ≤ t.blocks }
 {}
