@@ -1,15 +1,17 @@
 -- The fields of a sector that spells a header are the header's.
 use Rattle.std.proofs.Common.{◌≡◌, ◌<◌, ◌+◌, ◌-◌, ◌*◌, ◌^◌, ℕ, true, Some, List, length, take, drop, get_or, set, refl, sym, ap, subst, ◌∙◌, arith, lit≤, inl, inr, length-set, get_or-set_same, get_or-set_other}
+use Rattle.std.proofs.lemmas.List.FromFn.{length-map-range_with_len, get_or-map-range_with_len}
 use Rattle.std.proofs.lemmas.List.{take-take, drop-take, drop-drop, same_lists, get_or_default, set_past}
 use Rattle.std.proofs.lemmas.Bool.{cases_eq, cases_lt}
 use Rattle.byteorder.specs.Endian.{big_bytes}
 use Rattle.life_limits.specs.declared.TheConstants.{NO_INODE}
 use Rattle.life_bytes.specs.Fields.{field, with_field, with_piece}
 use Rattle.life_bytes.specs.Pieces.{placed, blank, sealed, number, piece}
-use Rattle.life_bytes.specs.TableLaws.{AreRows, sealed_row, sealed_number, number_at, in_blank, length-table, sealed_again, sealed_again_twice, row_changes, is_aside}
+use Rattle.life_bytes.specs.TableLaws.{AreRows, length-sealed_table, sealed_row, sealed_number, number_at, in_blank, length-table, sealed_again, sealed_again_twice, row_changes, is_aside}
 use Rattle.std.specs.List.{slice_get}
 use Rattle.ag_header.specs.declared.agi.Agi.{Agi}
 use Rattle.ag_header.specs.Headers.{IsAgi, Fits, fields, spelling, Spells, with_head, with_counts, with_root}
+use Rattle.ag_header.specs.Reading.{agi_in, HeadersAreRead}
 use Rattle.ag_header.proofs.HeadBytes.{bytes_of, length-bytes_of, head_at, head_put}
 
 rows : (agi : Agi) → Fits agi → AreRows 512 (fields agi)
@@ -200,3 +202,15 @@ set_root agi root level bytes first second new is s p q r =
           ∙ sealed_again_twice 312 4 20 (big_bytes 4 root) 4 24 (big_bytes 4 level) (plain agi) (omega (arith, long)) (omega (arith, long)) refl (inr (lit≤ tt)) (omega (arith, long)) refl (inr (lit≤ tt))
           ∙ ap (λ (l : List ℕ). sealed 312 (with_field 4 24 level l)) (number_set agi 5 20 agi.root root s.fits refl refl) ∙ ap (sealed 312) (number_set half 6 24 half.level level half_fits refl refl);
     }
+
+-- ---- the law
+
+pub headers_are_read : HeadersAreRead
+unfolding spelling
+headers_are_read = record {
+  read = λ bytes agi s.
+      let f : ℕ → ℕ = λ k. field 4 (40 + 4 * k) bytes in
+      is_read (agi_in bytes) agi bytes refl refl refl refl refl refl (length-map-range_with_len f 0 64) (λ k lt. get_or-map-range_with_len f 0 64 k k 0 lt (omega arith)) refl s;
+  spelled = λ agi is fits. record { allowed = is; fits = fits; sector = refl };
+  long = λ agi is fits. length-sealed_table 312 (fields agi) (rows agi fits) (lit≤ tt);
+}

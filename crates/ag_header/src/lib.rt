@@ -21,11 +21,13 @@
 
 mod agi;
 mod heads;
+mod laws;
 mod reading;
 mod setting;
 mod writing;
 
 pub use agi::Agi;
+pub use laws::spelled_headers_are_read;
 pub use reading::read_agi;
 pub use setting::{set_counts, set_head, set_root};
 pub use writing::write_agi;

@@ -12,7 +12,8 @@ use Rattle.life_bytes.specs.PieceLaws.{Apart}
 use Rattle.life_bytes.specs.TableLaws.{AreRows, IsAside, is_aside, number_at, length-placed, length-sealed, sealed_other}
 use Rattle.inobt_leaf.specs.declared.chunk.ChunkRec.{ChunkRec}
 use Rattle.inobt_leaf.specs.Chunks.{IsChunk, IsLeaf}
-use Rattle.inobt_leaf.specs.Pages.{header, chunk_rows, records, blank_page, spelling, chunk_at}
+use Rattle.inobt_leaf.specs.Pages.{header, chunk_rows, records, blank_page, spelling, chunk_at, chunks_in}
+use Rattle.inobt_leaf.specs.PageLaws.{PagesAreRead}
 use Rattle.inobt_leaf.proofs.Tables.{row_among, AreRows-chunk, AreRows-records, IsAside-records, records-append}
 
 length-blank_page : length blank_page ≡ 4096
@@ -149,3 +150,11 @@ pub spelling-injective : (a b : List ChunkRec) (group at : ℕ) (uuid : List ℕ
 spelling-injective a b group at uuid leaf_a leaf_b is same =
     sym (read_again a _ (spelling a group at uuid) (field 2 6 (spelling a group at uuid)) group at uuid leaf_a is refl refl refl)
     ∙ read_again b _ (spelling a group at uuid) (field 2 6 (spelling a group at uuid)) group at uuid leaf_b is same refl refl
+
+pub pages_are_read : PagesAreRead
+pages_are_read = record {
+  read = λ chunks group at uuid leaf is.
+      let page : List ℕ = spelling chunks group at uuid in
+      read_again chunks (chunks_in page) page (field 2 6 page) group at uuid leaf is refl refl refl;
+  long = length-spelling;
+}

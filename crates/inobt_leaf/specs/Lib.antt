@@ -1,3 +1,4 @@
 pub mod Chunks
 pub mod Masks
 pub mod Pages
+pub mod PageLaws

@@ -1,5 +1,6 @@
 -- A leaf as a page of 4,096 bytes: the block of an inode btree that has no sibling, at level 0.
-use Rattle.std.specs.Prelude.{◌+◌, ℕ, List, [], ◌∷◌, ◌++◌, length, replicate}
+use Rattle.std.specs.Prelude.{◌+◌, ◌*◌, ℕ, List, [], ◌∷◌, ◌++◌, length, replicate, map}
+use Rattle.std.specs.List.{range_with_len}
 use Rattle.life_bytes.specs.Fields.{field}
 use Rattle.life_bytes.specs.Pieces.{Row, number, piece, placed, sealed}
 use Rattle.inobt_leaf.specs.declared.chunk.ChunkRec.{ChunkRec}
@@ -49,3 +50,7 @@ spelling chunks group at uuid = sealed 52 (placed (header (length chunks) group 
 -- the record that stands at a place
 abbrev pub chunk_at : List ℕ → ℕ → ChunkRec
 chunk_at bytes place = record { start = field 4 place bytes; free = field 4 (place + 4) bytes; mask = field 8 (place + 8) bytes }
+
+-- the chunks that a page's records give, whatever else the page holds
+abbrev pub chunks_in : List ℕ → List ChunkRec
+chunks_in bytes = map (λ i. chunk_at bytes (56 + 16 * i)) (range_with_len 0 (field 2 6 bytes))

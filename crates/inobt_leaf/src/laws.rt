@@ -2,6 +2,7 @@
 
 ghost use Rattle.std.specs.Prelude.{◌≡◌, ℕ, List, length};
 ghost use Rattle.inobt_leaf.specs.Chunks.{IsLeaf};
+ghost use Rattle.inobt_leaf.specs.PageLaws.{PagesAreRead};
 ghost use Rattle.inobt_leaf.specs.Pages.{spelling};
 ghost use Rattle.inobt_leaf.specs.declared.chunk.ChunkRec.{ChunkRec};
 
@@ -11,4 +12,9 @@ pub fn pages_tell_leaves()
         → length (spelling chunks group at uuid) ≡ 4096 }
     ensures one { (a b : List ChunkRec) (group at : ℕ) (uuid : List ℕ) → IsLeaf a → IsLeaf b → length uuid ≡ 16
         → spelling a group at uuid ≡ spelling b group at uuid → a ≡ b }
+{}
+
+/// A law: the records of a leaf's page give the leaf's chunks.
+pub fn spelled_pages_are_read()
+    ensures { PagesAreRead }
 {}

@@ -6,6 +6,7 @@ use Rattle.life_bytes.specs.Pieces.{Row, placed, blank, sealed, piece}
 use Rattle.life_bytes.specs.TableLaws.{AreRows, sealed_row, sealed_number, length-sealed_table}
 use Rattle.inode_core.specs.declared.shape.Core.{Core}
 use Rattle.inode_core.specs.Cores.{IsCore, mode_of, fork_of, no_fork, fields, spelling, Spells}
+use Rattle.inode_core.specs.Reading.{core_in, CoresAreRead}
 
 abbrev table : Core → ℕ → List ℕ → List ℕ → List Row
 table core ino uuid fork = fields core ino uuid ++ (piece 176 336 fork ∷ [])
@@ -173,3 +174,17 @@ same_fork core ino uuid bytes given live free s = by core.live refl
     by : (b : Bool) → core.live ≡ b → fork_of given ≡ fork_of bytes
     by true e = live e
     by false e = free e ∙ sym (s.fork e)
+
+pub length-spelling : (core : Core) (ino : ℕ) (uuid fork : List ℕ) → length uuid ≡ 16 → length fork ≡ 336 → length (spelling core ino uuid fork) ≡ 512
+unfolding spelling
+length-spelling core ino uuid fork wide long = length-sealed_table 100 (table core ino uuid fork) (rows core ino uuid fork wide long) (lit≤ tt)
+
+pub cores_are_read : CoresAreRead
+cores_are_read = record {
+  read = λ bytes uuid ino core size wide s. is_read (core_in bytes) core ino bytes uuid wide size refl refl refl refl refl refl refl s;
+  spelled = λ core ino uuid fork can.
+      let same = fork_of-spelling core ino uuid fork can.wide can.long in
+      record { allowed = can.allowed; fork = λ f. same ∙ can.free f; sector = ap (spelling core ino uuid) (sym same) };
+  same_fork = λ core ino uuid fork can. fork_of-spelling core ino uuid fork can.wide can.long;
+  long = λ core ino uuid fork can. length-spelling core ino uuid fork can.wide can.long;
+}

@@ -20,10 +20,12 @@
 //! | 160 | 16 | uuid | the superblock's |
 #![tactic(auto)]
 
+mod laws;
 mod reading;
 mod shape;
 mod writing;
 
+pub use laws::spelled_cores_are_read;
 pub use reading::read_core;
 pub use shape::Core;
 pub use writing::write_core;

@@ -1,0 +1,25 @@
+-- What the fields of a sector give, and that it is what the sector spells.
+use Rattle.std.specs.Prelude.{◌≡◌, ◌+◌, ◌*◌, ℕ, List, length, map, take, drop}
+use Rattle.std.specs.List.{range_with_len}
+use Rattle.life_bytes.specs.Fields.{field}
+use Rattle.ag_header.specs.declared.agi.Agi.{Agi}
+use Rattle.ag_header.specs.Headers.{IsAgi, Fits, Spells, spelling}
+
+-- the header that the fields give, whatever else the sector holds
+abbrev pub agi_in : List ℕ → Agi
+agi_in bytes = record {
+  group = field 4 8 bytes;
+  blocks = field 4 12 bytes;
+  count = field 4 16 bytes;
+  root = field 4 20 bytes;
+  level = field 4 24 bytes;
+  free = field 4 28 bytes;
+  heads = map (λ k. field 4 (40 + 4 * k) bytes) (range_with_len 0 64);
+  uuid = take 16 (drop 296 bytes);
+}
+
+-- What is spelled is read, so no sector spells two headers; and a header's spelling is a sector that spells it.
+pub record HeadersAreRead : Type 0 where
+  pub read : (bytes : List ℕ) (agi : Agi) → Spells bytes agi → agi_in bytes ≡ agi
+  pub spelled : (agi : Agi) → IsAgi agi → Fits agi → Spells (spelling agi) agi
+  pub long : (agi : Agi) → IsAgi agi → Fits agi → length (spelling agi) ≡ 512
