@@ -1,5 +1,5 @@
 -- The runs of a list of blocks.
-use Rattle.std.proofs.Common.{◌≡◌, ◌≢◌, ◌≤◌, ◌<◌, ◌+◌, ℕ, zero, suc, Bool, true, false, cond, eqb, List, [], ◌∷◌, ◌++◌, length, drop, get_or, refl, sym, ap, subst, ◌∙◌, arith, append_assoc, eq-eqb, add-one, inl, inr, ◌⊎◌}
+use Rattle.std.proofs.Common.{◌≡◌, ◌≢◌, ◌≤◌, ◌<◌, ◌+◌, ◌*◌, ℕ, zero, suc, Bool, true, false, cond, eqb, List, [], ◌∷◌, ◌++◌, length, drop, get_or, refl, sym, ap, subst, ◌∙◌, arith, append_assoc, eq-eqb, add-one, inl, inr, ◌⊎◌}
 use Rattle.std.specs.List.{AllByRecursion, flat_map, range_with_len}
 use Rattle.std.proofs.lemmas.Bool.Decides.{eqb_tells}
 use Rattle.std.proofs.lemmas.List.{drop_more, drop_all}
@@ -7,7 +7,11 @@ use Rattle.std.proofs.lemmas.List.Concat.{flat_map-cons}
 use Rattle.extent_fork.specs.declared.extent.Extent.{Extent}
 use Rattle.extent_fork.specs.Runs.{single, end_of, grown, runs_from, runs, blocks_of, AreApart, AreLongestRuns}
 use Rattle.extent_fork.specs.Forks.{IsRun, AreRuns}
+use Rattle.extent_fork.specs.Reading.{runs_in, run_in, ForksAreRead}
 use Rattle.extent_fork.proofs.Lists.{AreApartAfter, with_first}
+use Rattle.extent_fork.proofs.Records.{length-fork, runs_read}
+use Rattle.std.proofs.lemmas.List.FromFn.{length-map-range_with_len, get_or-map-range_with_len}
+use Rattle.life_bytes.specs.Fields.{field}
 
 chosen : (b : Bool) (x y : List Extent) → b ≡ true → cond b x y ≡ x
 chosen b x y e = ap (λ (t : Bool). cond t x y) e
@@ -123,3 +127,15 @@ for_fork blocks found e below above =
     by (block ∷ blocks) small =
         let one = small 0 0 (omega arith) in
         data_runs (single block) blocks (record { count = omega arith; start = one.0; end = omega (arith, one.1) }) (λ k d lt. small (suc k) d (omega arith))
+
+-- ---- the law
+
+pub forks_are_read : ForksAreRead
+forks_are_read = record {
+  read = λ bytes count group list low few has.
+      let f : ℕ → Extent = λ k. run_in (field 16 (176 + 16 * k) bytes) in
+      runs_read group list (runs_in count bytes) bytes count low few has (length-map-range_with_len f 0 count) (λ k d lt. get_or-map-range_with_len f 0 count k k d lt (omega arith));
+  long = length-fork;
+  for_blocks = λ blocks all. for_fork blocks (runs blocks) refl (λ k d lt. (all k d lt).1) (λ k d lt. (all k d lt).0);
+  blocks = λ blocks. (longest blocks (runs blocks) refl).all;
+}

@@ -7,7 +7,7 @@ use Rattle.byteorder.specs.Endian.{big_bytes, big_from}
 use Rattle.byteorder.specs.Numbers.{big_number-reads_back}
 use Rattle.life_bytes.specs.Fields.{field, with_field, with_piece}
 use Rattle.life_bytes.specs.Pieces.{zeros}
-use Rattle.life_bytes.specs.TableLaws.{put_behind, zeros_is, length-zeros, drop-zeros}
+use Rattle.life_bytes.specs.TableLaws.{put_behind, zeros_is, length-zeros}
 use Rattle.inode_core.specs.Cores.{fork_of}
 use Rattle.extent_fork.specs.declared.extent.Extent.{Extent}
 use Rattle.extent_fork.specs.Forks.{IsRun, HasFork, record_number, records, fork}

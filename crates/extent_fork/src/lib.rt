@@ -8,12 +8,14 @@
 
 mod extent;
 mod fault;
+mod laws;
 mod reading;
 mod runs;
 mod writing;
 
 pub use extent::Extent;
 pub use fault::{ForkFault, RunsFault};
+pub use laws::spelled_forks_are_read;
 pub use reading::read_fork;
 pub use runs::runs_of;
 pub use writing::write_fork;
