@@ -13,7 +13,7 @@ use Rattle.std.proofs.Math.Nat.{pow-suc, div-one}
 use Rattle.byteorder.specs.Endian.{little_bytes}
 use Rattle.byteorder.specs.Numbers.{length-bytes_low_first}
 use Rattle.free_map.specs.Blocks.{is_free}
-use Rattle.free_map.specs.Bitmap.{says_free, read_blocks, number_of_bits, bitmap, IsBitmap}
+use Rattle.free_map.specs.Bitmap.{says_free, read_blocks, number_of_bits, bitmap, BitsAreHeld, IsBitmap}
 use Rattle.free_map.specs.Words.{has, blocks_of, IsKept}
 use Rattle.free_map.proofs.Bits.{low_byte}
 use Rattle.free_map.proofs.Maps.{is_free_kept, free_blocks_where, length-free_blocks}
@@ -195,3 +195,10 @@ blocks_read words old bytes n few cleared loaded =
     ∙ ap (λ (t : Bool). t && has old b) (lt-ltb b n below)
     ∙ loaded b (omega arith)
     ∙ sym (get_or-map-range_with_len (says_free bytes) 0 n b b d below (omega arith)))
+
+pub bits_are_held : BitsAreHeld
+bits_are_held = record {
+  bit = λ bits i. ap (λ (n : ℕ). eqb n 1) (bit_at-number bits i) ∙ test_of_bit (get_or bits i false);
+  small = number_below;
+  long = length-bitmap;
+}

@@ -1,5 +1,5 @@
 -- The bitmap that stands in the image: bit b mod 8 of byte b / 8, of value 2^(b mod 8), is set where block b is free.
-use Rattle.std.specs.Prelude.{◌≡◌, ◌+◌, ◌*◌, ◌/◌, ◌%◌, ◌≤◌, ◌==◌, ℕ, Bool, false, List, [], ◌∷◌, length, map, take, drop, slice_index, if◌then◌else◌}
+use Rattle.std.specs.Prelude.{◌≡◌, ◌+◌, ◌*◌, ◌/◌, ◌%◌, ◌≤◌, ◌<◌, ◌^◌, ◌==◌, ℕ, Bool, false, List, [], ◌∷◌, length, map, take, drop, slice_index, slice_index_or, if◌then◌else◌}
 use Rattle.std.specs.List.{range_with_len}
 use Rattle.std.specs.Int.{bit_at}
 use Rattle.life_bytes.specs.Fields.{AreBytes}
@@ -26,3 +26,9 @@ pub record IsBitmap (bytes : List ℕ) (n : ℕ) : Type 0 where
   pub long : length bytes ≡ 2048
   pub small : AreBytes bytes
   pub clear : (b : ℕ) → n ≤ b → says_free bytes b ≡ false
+
+-- A number has the bits that it is made of, and no others; a bitmap has its 2,048 bytes.
+pub record BitsAreHeld : Type 0 where
+  pub bit : (bits : List Bool) (i : ℕ) → (bit_at (number_of_bits bits) i == 1) ≡ slice_index_or bits i false
+  pub small : (bits : List Bool) (k : ℕ) → length bits ≤ k → number_of_bits bits < 2 ^ k
+  pub long : (blocks : List Bool) → length (bitmap blocks) ≡ 2048

@@ -7,7 +7,7 @@ mod map;
 mod stored;
 mod words;
 
-pub use laws::bitmaps_are_the_sets;
+pub use laws::{bitmaps_are_the_sets, numbers_hold_their_bits};
 pub use map::{FreeMap, read_map};
 
 #[cfg(test)]
