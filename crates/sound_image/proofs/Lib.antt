@@ -1,0 +1,12 @@
+pub mod Damages
+pub mod Sectors
+pub mod Groups
+pub mod Leaves
+pub mod Metadata
+pub mod Ready
+pub mod Headers
+pub mod Inodes
+pub mod Rows
+pub mod Right
+pub mod Buckets
+pub mod Whole

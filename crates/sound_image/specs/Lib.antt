@@ -1,0 +1,6 @@
+pub mod Places
+pub mod Reading
+pub mod Rules
+pub mod Damage
+pub mod Spelling
+pub mod Stands

@@ -1,0 +1,143 @@
+-- The sectors that spell a table.
+use Rattle.std.specs.Prelude.{◌≡◌, ◌==◌, ◌+◌, ◌-◌, ◌*◌, ◌/◌, ◌%◌, ◌<◌, ◌≤◌, ◌&&◌, ℕ, Bool, true, false, List, [], ◌∷◌, Option, None, Some, is_none, nat_le, nat_lt, if◌then◌else◌, length, map, count_by, slice_index_or, sum_by, unwrap_or}
+use Rattle.std.specs.List.{range_with_len}
+use Rattle.std.specs.Option.{option_map}
+use Rattle.life_limits.specs.declared.TheConstants.{BLOCK_BYTES, BLOCK_SECTORS, BUCKETS, CHUNK_INODES, FIRST_PAGE_BLOCK, NO_INODE}
+use Rattle.life_bytes.specs.declared.sector.Sector.{Sector}
+use Rattle.geometry.specs.declared.shape.Geometry.{Geometry}
+use Rattle.geometry.specs.Places.{group_sectors}
+use Rattle.geometry.specs.Shape.{IsGeometry}
+use Rattle.inode_core.specs.declared.shape.Core.{Core}
+use Rattle.inode_core.specs.Cores.{no_fork}
+use Rattle.inode_core.specs.Cores.{spelling as core_spelling}
+use Rattle.extent_fork.specs.Forks.{fork}
+use Rattle.extent_fork.specs.Runs.{runs}
+use Rattle.ag_header.specs.declared.agi.Agi.{Agi}
+use Rattle.ag_header.specs.Headers.{spelling as header_spelling}
+use Rattle.inobt_leaf.specs.declared.chunk.ChunkRec.{ChunkRec}
+use Rattle.inobt_leaf.specs.Pages.{spelling as page_spelling}
+use Rattle.free_map.specs.Bitmap.{number_of_bits, bitmap}
+use Rattle.life_table.specs.declared.types.Row.{Row}
+use Rattle.life_table.specs.Table.{Inode, Chunk, Group, Table, inode_in, group_of}
+use Rattle.life_table.specs.Space.{times}
+use Rattle.life_table.specs.WellFormed.{IsTable}
+use Rattle.sound_image.specs.Places.{bytes_at, part, sector_in, number_in, header_place, bitmap_place, bitmap_sectors}
+use Rattle.sound_image.specs.Rules.{free_set}
+
+-- the lists of the unlinked buckets: for each group 64 lists of numbers of the group, each with its head first
+abbrev pub Lists : Type 0
+Lists = List (List (List ℕ))
+
+unfoldable pub list_of : Lists → ℕ → ℕ → List ℕ
+list_of lists group bucket = slice_index_or (slice_index_or lists group []) bucket []
+
+-- the head of a list, and what follows a member of it: the end where nothing does, and for one that is no member
+unfoldable pub head_of : List ℕ → ℕ
+head_of [] = NO_INODE
+head_of (member ∷ members) = member
+
+unfoldable pub next_in : List ℕ → ℕ → ℕ
+next_in [] agino = NO_INODE
+next_in (member ∷ members) agino = if member == agino then head_of members else next_in members agino
+
+-- whether an inode is in use and has no links
+abbrev pub is_unlinked_row : Option Row → Bool
+is_unlinked_row None = false
+is_unlinked_row (Some row) = row.links == 0
+
+abbrev pub is_unlinked : Option Inode → Bool
+is_unlinked None = false
+is_unlinked (Some inode) = is_unlinked_row inode.row
+
+-- The bucket lists of a table's rows without links: a number stands once in the list of its bucket, which is the number modulo 64, where its inode is
+-- in use and has no links, and in no other list.
+abbrev pub AreLists : Table → Lists → Type 0
+AreLists t lists =
+    (group bucket agino : ℕ) → group < length t.groups → bucket < BUCKETS
+    → times agino (list_of lists group bucket) ≡ (if (agino % BUCKETS == bucket) && is_unlinked (inode_in (group_of t group) agino) then 1 else 0)
+
+-- the mask of a chunk: bit i is set where inode i is not in use
+unfoldable pub mask_of : List Inode → ℕ
+mask_of inodes = number_of_bits (map (λ (inode : Inode). is_none inode.row) inodes)
+
+-- how many of its inodes are not in use
+unfoldable pub free_count : List Inode → ℕ
+free_count inodes = count_by (λ (inode : Inode). is_none inode.row) inodes
+
+-- the record of a chunk
+unfoldable pub record_of : Chunk → ChunkRec
+record_of chunk = record { start = chunk.start; free = free_count chunk.inodes; mask = mask_of chunk.inodes }
+
+-- the header of a group with these chunks and bucket lists; its one page is the first that it may have
+unfoldable pub header_for : Geometry → ℕ → Group → Lists → Agi
+header_for g group chunks lists =
+    record {
+      group = group;
+      blocks = g.blocks;
+      count = CHUNK_INODES * length chunks;
+      root = FIRST_PAGE_BLOCK;
+      level = 1;
+      free = sum_by (λ (chunk : Chunk). free_count chunk.inodes) chunks;
+      heads = map (λ bucket. head_of (list_of lists group bucket)) (range_with_len 0 BUCKETS);
+      uuid = g.uuid;
+    }
+
+-- the core of an inode with this row, which is followed by another in its bucket
+unfoldable pub core_for : ℕ → Option Row → ℕ → Core
+core_for generation None next = record { live = false; links = 0; size = 0; blocks = 0; extents = 0; generation = generation; next = NO_INODE }
+core_for generation (Some row) next =
+    record {
+      live = true;
+      links = row.links;
+      size = length row.blocks * BLOCK_BYTES;
+      blocks = length row.blocks;
+      extents = length (runs row.blocks);
+      generation = generation;
+      next = next;
+    }
+
+-- its fork
+unfoldable pub fork_for : ℕ → Option Row → List ℕ
+fork_for group None = no_fork
+fork_for group (Some row) = fork group (runs row.blocks)
+
+-- its sector
+unfoldable pub inode_sector : Geometry → Lists → ℕ → ℕ → Inode → List ℕ
+inode_sector g lists group agino inode =
+    core_spelling (core_for inode.generation inode.row (next_in (list_of lists group (agino % BUCKETS)) agino)) (number_in group agino) g.uuid (fork_for group inode.row)
+
+-- where the page of a group stands in it
+abbrev pub page_place : ℕ
+page_place = BLOCK_SECTORS * FIRST_PAGE_BLOCK
+
+-- its page
+unfoldable pub page_bytes : Geometry → ℕ → Group → List ℕ
+page_bytes g group chunks = page_spelling (map record_of chunks) group (sector_in g group page_place) g.uuid
+
+-- The bytes that stand at a place of a group with these chunks and bucket lists, where the format says what stands there.
+unfoldable pub metadata : Geometry → Lists → ℕ → Group → ℕ → Option (List ℕ)
+metadata g lists group chunks place =
+    if place == header_place then Some (header_spelling (header_for g group chunks lists))
+    else if nat_le bitmap_place place && nat_lt place (bitmap_place + bitmap_sectors) then Some (part (place - bitmap_place) (bitmap (free_set g.blocks chunks)))
+    else if nat_le page_place place && nat_lt place (page_place + BLOCK_SECTORS) then Some (part (place - page_place) (page_bytes g group chunks))
+    else option_map (inode_sector g lists group place) (inode_in chunks place)
+
+-- the bytes of a sector of the image: what the format says of its place in its group, else what stood there before
+unfoldable pub spelled_bytes : Geometry → Table → Lists → List Sector → ℕ → List ℕ
+spelled_bytes g t lists image s =
+    if nat_lt s (g.groups * group_sectors g)
+    then unwrap_or (metadata g lists (s / group_sectors g) (group_of t (s / group_sectors g)) (s % group_sectors g)) (bytes_at image s)
+    else bytes_at image s
+
+-- the sectors with each metadata sector of the groups as it is spelled for a table and bucket lists; all others stay
+unfoldable pub spelled : Geometry → Table → Lists → List Sector → List Sector
+spelled g t lists image = map (λ s. record { bytes = spelled_bytes g t lists image s }) (range_with_len 0 (length image))
+
+-- the table is that of such an image: it is well formed and of the image's shape, the lists are its bucket lists, and the image holds the groups
+pub record CanSpell (g : Geometry) (t : Table) (lists : Lists) (image : List Sector) : Type 0 where
+  pub shape : IsGeometry g
+  pub table : IsTable t
+  pub groups : length t.groups ≡ g.groups
+  pub blocks : t.blocks ≡ g.blocks
+  pub buckets : AreLists t lists
+  pub size : g.groups * group_sectors g ≤ length image
