@@ -1,11 +1,11 @@
 -- A superblock's fields are those of the geometry that it spells.
-use Rattle.std.proofs.Common.{◌≡◌, ℕ, List, take, drop, refl, ap, ◌∙◌, arith, lit≤}
+use Rattle.std.proofs.Common.{◌≡◌, ℕ, List, take, drop, refl, ap, sym, ◌∙◌, arith, lit≤}
 use Rattle.life_bytes.specs.Fields.{field}
 use Rattle.life_bytes.specs.Pieces.{piece}
 use Rattle.life_bytes.specs.TableLaws.{AreRows, sealed_row, sealed_number}
 use Rattle.geometry.specs.declared.shape.Geometry.{Geometry}
 use Rattle.geometry.specs.Shape.{IsGeometry}
-use Rattle.geometry.specs.Superblock.{superblock, spelling}
+use Rattle.geometry.specs.Superblock.{superblock, spelling, SuperblocksTell}
 
 rows : (g : Geometry) → IsGeometry g → AreRows 512 (superblock g)
 rows g is =
@@ -45,3 +45,8 @@ is_read read g bytes version groups blocks ring uuid is spelled =
     let s = says g is in
     same read g (version ∙ ap (field 4 4) spelled ∙ s.version) (groups ∙ ap (field 4 8) spelled ∙ s.groups) (blocks ∙ ap (field 4 12) spelled ∙ s.blocks)
     (ring ∙ ap (field 4 16) spelled ∙ s.ring) (uuid ∙ ap (λ (b : List ℕ). take 16 (drop 24 b)) spelled ∙ s.uuid)
+
+pub superblocks_tell : SuperblocksTell
+superblocks_tell a b is_a is_b e =
+    let s = says a is_a in
+    is_read a b (spelling a) (sym s.version) (sym s.groups) (sym s.blocks) (sym s.ring) (sym s.uuid) is_b e

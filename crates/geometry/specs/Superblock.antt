@@ -1,7 +1,8 @@
 -- The superblock as a sector.
-use Rattle.std.specs.Prelude.{ℕ, List, [], ◌∷◌}
+use Rattle.std.specs.Prelude.{◌≡◌, ℕ, List, [], ◌∷◌}
 use Rattle.life_bytes.specs.Pieces.{Row, number, piece, placed, blank, sealed}
 use Rattle.geometry.specs.declared.shape.Geometry.{Geometry}
+use Rattle.geometry.specs.Shape.{IsGeometry}
 
 -- `LIFE` in ASCII
 abbrev pub magic : ℕ
@@ -20,3 +21,7 @@ superblock g =
 -- the sector that spells a geometry: its fields over zeros, and the checksum at byte 40
 unfoldable pub spelling : Geometry → List ℕ
 spelling g = sealed 40 (placed (superblock g) blank)
+
+-- no sector spells two geometries
+abbrev pub SuperblocksTell : Type 0
+SuperblocksTell = (a b : Geometry) → IsGeometry a → IsGeometry b → spelling a ≡ spelling b → a ≡ b

@@ -1,4 +1,4 @@
--- The unlinked buckets of an image that spells a table are its bucket lists.
+-- The unlinked buckets of an image that spells a table are its bucket layouts.
 use Rattle.std.proofs.Common.{◌≡◌, ◌≢◌, ◌<◌, ◌≤◌, ◌%◌, ℕ, zero, suc, true, cond, List, [], ◌∷◌, Option, Some, length, get_or, eqb, inl, inr, refl, ap, sym, subst, ◌∙◌, arith}
 use Rattle.std.specs.Prelude.{IsSomeAnd}
 use Rattle.std.specs.Option.{option_map, option_and_then}
@@ -15,14 +15,14 @@ use Rattle.life_table.specs.History.{closed_inode, closed_row}
 use Rattle.life_table.specs.Space.{times}
 use Rattle.sound_image.specs.Reading.{core_of, row_at}
 use Rattle.sound_image.specs.Rules.{pointer, IsMember, IsNewMember, Ends, IsMet, IsListed}
-use Rattle.sound_image.specs.Spelling.{Lists, list_of, head_of, next_in, header_for, is_unlinked, spelled}
+use Rattle.sound_image.specs.Spelling.{Layouts, list_of, head_of, next_in, header_for, is_unlinked, spelled}
 use Rattle.sound_image.proofs.Groups.{times-cons, times-nil, times_here, times_later}
 use Rattle.sound_image.proofs.Headers.{header_is}
 use Rattle.sound_image.proofs.Inodes.{times_get, next_is}
 use Rattle.sound_image.proofs.Ready.{Lower, IsReady, member, member_range, member_once, is_unlinked_again, is_linked, unlinked_listed, linked_not_listed}
 use Rattle.sound_image.proofs.Rows.{is_row_read, inode_at_is}
 
--- ---- lists in which nothing stands twice
+-- ---- layouts in which nothing stands twice
 
 abbrev IsOnce : List ℕ → Type 0
 IsOnce members = (m : ℕ) → times m members ≤ 1
@@ -87,29 +87,29 @@ place_of (m ∷ members) a some =
 
 -- ---- the pointers
 
-heads_at : (g : Geometry) (group : ℕ) (chunks : Group) (lists : Lists) (bucket : ℕ) → bucket < 64
-    → get_or (header_for g group chunks lists).heads bucket 0 ≡ head_of (list_of lists group bucket)
+heads_at : (g : Geometry) (group : ℕ) (chunks : Group) (layouts : Layouts) (bucket : ℕ) → bucket < 64
+    → get_or (header_for g group chunks layouts).heads bucket 0 ≡ head_of (list_of layouts group bucket)
 unfolding header_for
-heads_at g group chunks lists bucket lt = get_or-map-range_with_len (λ bucket. head_of (list_of lists group bucket)) 0 64 bucket bucket 0 lt (omega arith)
+heads_at g group chunks layouts bucket lt = get_or-map-range_with_len (λ bucket. head_of (list_of layouts group bucket)) 0 64 bucket bucket 0 lt (omega arith)
 
-once_of : (g : Geometry) (t : Table) (lists : Lists) (image : List Sector) (group bucket : ℕ) → IsReady g t lists image group → bucket < 64 → IsOnce (list_of lists group bucket)
-once_of g t lists image group bucket r low m = member_once g t lists image group bucket m r low
+once_of : (g : Geometry) (t : Table) (layouts : Layouts) (image : List Sector) (group bucket : ℕ) → IsReady g t layouts image group → bucket < 64 → IsOnce (list_of layouts group bucket)
+once_of g t layouts image group bucket r low m = member_once g t layouts image group bucket m r low
 
-pointer_is : (l : Lower) (g : Geometry) (t : Table) (lists : Lists) (image : List Sector) (group bucket : ℕ) → IsReady g t lists image group → bucket < 64
-    → (n : ℕ) → n ≤ length (list_of lists group bucket) → pointer g (spelled g t lists image) group bucket n ≡ get_or (list_of lists group bucket) n NO_INODE
+pointer_is : (l : Lower) (g : Geometry) (t : Table) (layouts : Layouts) (image : List Sector) (group bucket : ℕ) → IsReady g t layouts image group → bucket < 64
+    → (n : ℕ) → n ≤ length (list_of layouts group bucket) → pointer g (spelled g t layouts image) group bucket n ≡ get_or (list_of layouts group bucket) n NO_INODE
 unfolding pointer
-pointer_is l g t lists image group bucket r low zero le =
-    ap (λ (agi : Agi). get_or agi.heads bucket 0) (header_is l g t lists image group r) ∙ heads_at g group (group_of t group) lists bucket low ∙ head_at (list_of lists group bucket)
-pointer_is l g t lists image group bucket r low (suc n) le =
-    let new = spelled g t lists image in
-    let members = list_of lists group bucket in
+pointer_is l g t layouts image group bucket r low zero le =
+    ap (λ (agi : Agi). get_or agi.heads bucket 0) (header_is l g t layouts image group r) ∙ heads_at g group (group_of t group) layouts bucket low ∙ head_at (list_of layouts group bucket)
+pointer_is l g t layouts image group bucket r low (suc n) le =
+    let new = spelled g t layouts image in
+    let members = list_of layouts group bucket in
     let a : ℕ = get_or members n NO_INODE in
-    let m = member g t lists image group bucket a r low (times_get members n NO_INODE (omega arith)) in
+    let m = member g t layouts image group bucket a r low (times_get members n NO_INODE (omega arith)) in
     let u = m.unlinked in
-    ap (λ (p : ℕ). (core_of g new group p).next) (pointer_is l g t lists image group bucket r low n (omega arith))
-    ∙ next_is l g t lists image group a u.inode u.row r u.found u.live
-    ∙ ap (λ (b : ℕ). next_in (list_of lists group b) a) m.own
-    ∙ next_at members n (once_of g t lists image group bucket r low) (omega arith)
+    ap (λ (p : ℕ). (core_of g new group p).next) (pointer_is l g t layouts image group bucket r low n (omega arith))
+    ∙ next_is l g t layouts image group a u.inode u.row r u.found u.live
+    ∙ ap (λ (b : ℕ). next_in (list_of layouts group b) a) m.own
+    ∙ next_at members n (once_of g t layouts image group bucket r low) (omega arith)
 
 -- ---- members
 
@@ -119,70 +119,70 @@ row_made o x row found live nil =
     subst (λ (o : Option Inode). IsSomeAnd (option_and_then (λ (inode : Inode). inode.row) (option_map closed_inode o)) (λ (row : Row). row.links ≡ 0)) (sym found)
     (subst (λ (o : Option Row). IsSomeAnd (closed_row o) (λ (row : Row). row.links ≡ 0)) (sym live) nil)
 
-no_links : (l : Lower) (g : Geometry) (t : Table) (lists : Lists) (image : List Sector) (group agino : ℕ) (x : Inode) (row : Row) → IsReady g t lists image group
-    → inode_in (group_of t group) agino ≡ Some x → x.row ≡ Some row → row.links ≡ 0 → IsSomeAnd (row_at g (spelled g t lists image) group agino) (λ (row : Row). row.links ≡ 0)
+no_links : (l : Lower) (g : Geometry) (t : Table) (layouts : Layouts) (image : List Sector) (group agino : ℕ) (x : Inode) (row : Row) → IsReady g t layouts image group
+    → inode_in (group_of t group) agino ≡ Some x → x.row ≡ Some row → row.links ≡ 0 → IsSomeAnd (row_at g (spelled g t layouts image) group agino) (λ (row : Row). row.links ≡ 0)
 unfolding row_at
-no_links l g t lists image group agino x row r found live nil =
-    subst (λ (o : Option Inode). IsSomeAnd (option_and_then (λ (inode : Inode). inode.row) o) (λ (row : Row). row.links ≡ 0)) (sym (inode_at_is l g t lists image group agino r))
+no_links l g t layouts image group agino x row r found live nil =
+    subst (λ (o : Option Inode). IsSomeAnd (option_and_then (λ (inode : Inode). inode.row) o) (λ (row : Row). row.links ≡ 0)) (sym (inode_at_is l g t layouts image group agino r))
     (row_made (inode_in (group_of t group) agino) x row found live nil)
 
-is_member : (l : Lower) (g : Geometry) (t : Table) (lists : Lists) (image : List Sector) (group bucket a : ℕ) → IsReady g t lists image group → bucket < 64
-    → 1 ≤ times a (list_of lists group bucket) → IsMember g (spelled g t lists image) group bucket a
-is_member l g t lists image group bucket a r low some =
-    let m = member g t lists image group bucket a r low some in
+is_member : (l : Lower) (g : Geometry) (t : Table) (layouts : Layouts) (image : List Sector) (group bucket a : ℕ) → IsReady g t layouts image group → bucket < 64
+    → 1 ≤ times a (list_of layouts group bucket) → IsMember g (spelled g t layouts image) group bucket a
+is_member l g t layouts image group bucket a r low some =
+    let m = member g t layouts image group bucket a r low some in
     let u = m.unlinked in
-    let range = member_range g t lists image group bucket a r low some in
+    let range = member_range g t layouts image group bucket a r low some in
     let most = r.most in
     record {
       some = λ e. omega (arith, e, range.1, most);
-      no_links = no_links l g t lists image group a u.inode u.row r u.found u.live u.no_links;
+      no_links = no_links l g t layouts image group a u.inode u.row r u.found u.live u.no_links;
       own_bucket = m.own;
     }
 
-new_member : (l : Lower) (g : Geometry) (t : Table) (lists : Lists) (image : List Sector) (group bucket : ℕ) → IsReady g t lists image group → bucket < 64
-    → (k : ℕ) → k < length (list_of lists group bucket) → IsNewMember g (spelled g t lists image) group bucket k
-new_member l g t lists image group bucket r low k lt =
-    let new = spelled g t lists image in
-    let members = list_of lists group bucket in
-    let at : (n : ℕ) → n < length members → pointer g new group bucket n ≡ get_or members n NO_INODE = λ n within. pointer_is l g t lists image group bucket r low n (omega arith) in
+new_member : (l : Lower) (g : Geometry) (t : Table) (layouts : Layouts) (image : List Sector) (group bucket : ℕ) → IsReady g t layouts image group → bucket < 64
+    → (k : ℕ) → k < length (list_of layouts group bucket) → IsNewMember g (spelled g t layouts image) group bucket k
+new_member l g t layouts image group bucket r low k lt =
+    let new = spelled g t layouts image in
+    let members = list_of layouts group bucket in
+    let at : (n : ℕ) → n < length members → pointer g new group bucket n ≡ get_or members n NO_INODE = λ n within. pointer_is l g t layouts image group bucket r low n (omega arith) in
     record {
-      member = subst (IsMember g new group bucket) (sym (at k lt)) (is_member l g t lists image group bucket (get_or members k NO_INODE) r low (times_get members k NO_INODE lt));
-      new = λ j before e. differ members j k (once_of g t lists image group bucket r low) before lt (sym (at j (omega arith)) ∙ e ∙ at k lt);
+      member = subst (IsMember g new group bucket) (sym (at k lt)) (is_member l g t layouts image group bucket (get_or members k NO_INODE) r low (times_get members k NO_INODE lt));
+      new = λ j before e. differ members j k (once_of g t layouts image group bucket r low) before lt (sym (at j (omega arith)) ∙ e ∙ at k lt);
     }
 
-pub pointers_right : (l : Lower) (g : Geometry) (t : Table) (lists : Lists) (image : List Sector) (group bucket : ℕ) → IsReady g t lists image group → bucket < 64
-    → Ends g (spelled g t lists image) group bucket
-pointers_right l g t lists image group bucket r low =
-    let members = list_of lists group bucket in
+pub pointers_right : (l : Lower) (g : Geometry) (t : Table) (layouts : Layouts) (image : List Sector) (group bucket : ℕ) → IsReady g t layouts image group → bucket < 64
+    → Ends g (spelled g t layouts image) group bucket
+pointers_right l g t layouts image group bucket r low =
+    let members = list_of layouts group bucket in
     record {
       count = length members;
-      members = new_member l g t lists image group bucket r low;
-      end = pointer_is l g t lists image group bucket r low (length members) (omega arith) ∙ get_or_past members (length members) NO_INODE (omega arith);
+      members = new_member l g t layouts image group bucket r low;
+      end = pointer_is l g t layouts image group bucket r low (length members) (omega arith) ∙ get_or_past members (length members) NO_INODE (omega arith);
     }
 
--- ---- the lists are complete
+-- ---- the layouts are complete
 
-met : (l : Lower) (g : Geometry) (t : Table) (lists : Lists) (image : List Sector) (group agino : ℕ) → IsReady g t lists image group
-    → is_unlinked (inode_in (group_of t group) agino) ≡ true → IsMet g (spelled g t lists image) group agino
-met l g t lists image group agino r e =
+met : (l : Lower) (g : Geometry) (t : Table) (layouts : Layouts) (image : List Sector) (group agino : ℕ) → IsReady g t layouts image group
+    → is_unlinked (inode_in (group_of t group) agino) ≡ true → IsMet g (spelled g t layouts image) group agino
+met l g t layouts image group agino r e =
     let bucket : ℕ = agino % 64 in
     let low : bucket < 64 = omega arith in
-    let p = place_of (list_of lists group bucket) agino (omega (arith, unlinked_listed g t lists image group agino r e)) in
+    let p = place_of (list_of layouts group bucket) agino (omega (arith, unlinked_listed g t layouts image group agino r e)) in
     let within = p.within in
     record {
       place = p.index;
-      members = λ k lt. new_member l g t lists image group bucket r low k (omega arith);
-      met = pointer_is l g t lists image group bucket r low p.index (omega arith) ∙ p.here;
+      members = λ k lt. new_member l g t layouts image group bucket r low k (omega arith);
+      met = pointer_is l g t layouts image group bucket r low p.index (omega arith) ∙ p.here;
     }
 
-pub lists_right : (l : Lower) (g : Geometry) (t : Table) (lists : Lists) (image : List Sector) (group agino : ℕ) (row : Row) → IsReady g t lists image group
-    → row_at g (spelled g t lists image) group agino ≡ Some row → IsListed g (spelled g t lists image) group agino row
-lists_right l g t lists image group agino row r e =
-    let x = is_row_read l g t lists image group agino row r e in
+pub lists_right : (l : Lower) (g : Geometry) (t : Table) (layouts : Layouts) (image : List Sector) (group agino : ℕ) (row : Row) → IsReady g t layouts image group
+    → row_at g (spelled g t layouts image) group agino ≡ Some row → IsListed g (spelled g t layouts image) group agino row
+lists_right l g t layouts image group agino row r e =
+    let x = is_row_read l g t layouts image group agino row r e in
     record {
-      unlinked = λ nil. met l g t lists image group agino r (is_unlinked_again (group_of t group) agino x.inode x.held x.found x.live (sym x.links ∙ nil));
+      unlinked = λ nil. met l g t layouts image group agino r (is_unlinked_again (group_of t group) agino x.inode x.held x.found x.live (sym x.links ∙ nil));
       linked = λ some.
-          next_is l g t lists image group agino x.inode x.held r x.found x.live
-          ∙ next_none (list_of lists group (agino % 64)) agino
-          (linked_not_listed g t lists image group agino r (is_linked (group_of t group) agino x.inode x.held x.found x.live (λ nil. some (x.links ∙ nil))));
+          next_is l g t layouts image group agino x.inode x.held r x.found x.live
+          ∙ next_none (list_of layouts group (agino % 64)) agino
+          (linked_not_listed g t layouts image group agino r (is_linked (group_of t group) agino x.inode x.held x.found x.live (λ nil. some (x.links ∙ nil))));
     }

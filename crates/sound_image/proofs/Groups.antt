@@ -7,7 +7,7 @@ use Rattle.life_table.specs.Table.{Inode, Chunk, Group, start_of, inode_in}
 use Rattle.life_table.specs.Space.{times, chunk_blocks, row_blocks, inode_blocks, used}
 use Rattle.life_table.specs.WellFormed.{IsInode, IsChunk, IsDataBlock}
 
--- ---- how often a block stands in lists
+-- ---- how often a block stands in layouts
 
 pub times-cons : (b x : ℕ) (xs : List ℕ) → times b (x ∷ xs) ≡ cond (eqb b x) 1 0 + times b xs
 unfolding times

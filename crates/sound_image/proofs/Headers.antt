@@ -18,7 +18,7 @@ use Rattle.life_table.specs.Space.{times}
 use Rattle.sound_image.specs.Places.{bytes_at, bytes_from, part, sector_in}
 use Rattle.sound_image.specs.Reading.{header_of, page_sector, records_of}
 use Rattle.sound_image.specs.Rules.{IsHeaderRight, IsPageRight, AreCountsRight, IsInData}
-use Rattle.sound_image.specs.Spelling.{Lists, list_of, head_of, record_of, header_for, page_bytes, spelled}
+use Rattle.sound_image.specs.Spelling.{Layouts, list_of, head_of, record_of, header_for, page_of, page_place, page_bytes, spelled}
 use Rattle.sound_image.proofs.Groups.{times_here}
 use Rattle.sound_image.proofs.Leaves.{free_bound, free_sum, all_in_data_blocks}
 use Rattle.sound_image.proofs.Metadata.{at_header, at_page}
@@ -32,25 +32,25 @@ unfolding head_of
 small_head [] each = lit< tt
 small_head (m ∷ members) each = each m (times_here m members)
 
-heads_small : (g : Geometry) (t : Table) (lists : Lists) (image : List Sector) (group : ℕ) → IsReady g t lists image group → (k : ℕ)
-    → get_or (map (λ bucket. head_of (list_of lists group bucket)) (range_with_len 0 64)) k 0 < 2 ^ 32
-heads_small g t lists image group r k =
-    let f : ℕ → ℕ = λ bucket. head_of (list_of lists group bucket) in
+heads_small : (g : Geometry) (t : Table) (layouts : Layouts) (image : List Sector) (group : ℕ) → IsReady g t layouts image group → (k : ℕ)
+    → get_or (map (λ bucket. head_of (list_of layouts group bucket)) (range_with_len 0 64)) k 0 < 2 ^ 32
+heads_small g t layouts image group r k =
+    let f : ℕ → ℕ = λ bucket. head_of (list_of layouts group bucket) in
     let most = r.most in
     elim (cases_lt k 64) [
       | inl lt ↦
           subst (λ (n : ℕ). n < 2 ^ 32) (sym (get_or-map-range_with_len f 0 64 k k 0 lt (omega arith)))
-          (small_head (list_of lists group k) (λ m some. let range = member_range g t lists image group k m r lt some in omega arith))
+          (small_head (list_of layouts group k) (λ m some. let range = member_range g t layouts image group k m r lt some in omega arith))
       | inr past ↦ subst (λ (n : ℕ). n < 2 ^ 32) (sym (get_or_past (map f (range_with_len 0 64)) k 0 (omega (arith, length-map-range_with_len f 0 64)))) (lit< tt)
     ]
 
-header_allowed : (g : Geometry) (group : ℕ) (chunks : Group) (lists : Lists) → IsAgi (header_for g group chunks lists)
-unfolding header_for
-header_allowed g group chunks lists = record { root = (lit≤ tt, lit≤ tt); level = (lit≤ tt, lit≤ tt) }
+header_allowed : (g : Geometry) (group : ℕ) (chunks : Group) (layouts : Layouts) → 16 ≤ page_place layouts group → page_place layouts group ≤ 136 → IsAgi (header_for g group chunks layouts)
+unfolding header_for page_place
+header_allowed g group chunks layouts low high = record { root = (omega arith, omega arith); level = (lit≤ tt, lit≤ tt) }
 
-header_fits : (g : Geometry) (t : Table) (lists : Lists) (image : List Sector) (group : ℕ) → IsReady g t lists image group → Fits (header_for g group (group_of t group) lists)
+header_fits : (g : Geometry) (t : Table) (layouts : Layouts) (image : List Sector) (group : ℕ) → IsReady g t layouts image group → Fits (header_for g group (group_of t group) layouts)
 unfolding header_for
-header_fits g t lists image group r =
+header_fits g t layouts image group r =
     let few = r.is_group.few in
     let most = r.most in
     let small = r.small in
@@ -59,46 +59,46 @@ header_fits g t lists image group r =
       blocks = omega arith;
       count = omega arith;
       free = omega (arith, free_bound (group_of t group) r.is_group.chunks);
-      heads = length-map-range_with_len (λ bucket. head_of (list_of lists group bucket)) 0 64;
-      each_head = heads_small g t lists image group r;
+      heads = length-map-range_with_len (λ bucket. head_of (list_of layouts group bucket)) 0 64;
+      each_head = heads_small g t layouts image group r;
       uuid = r.uuid;
     }
 
-pub header_spelled : (l : Lower) (g : Geometry) (t : Table) (lists : Lists) (image : List Sector) (group : ℕ) → IsReady g t lists image group
-    → Spells (bytes_at (spelled g t lists image) (sector_in g group 2)) (header_for g group (group_of t group) lists)
-header_spelled l g t lists image group r =
-    let agi = header_for g group (group_of t group) lists in
+pub header_spelled : (l : Lower) (g : Geometry) (t : Table) (layouts : Layouts) (image : List Sector) (group : ℕ) → IsReady g t layouts image group
+    → Spells (bytes_at (spelled g t layouts image) (sector_in g group 2)) (header_for g group (group_of t group) layouts)
+header_spelled l g t layouts image group r =
+    let agi = header_for g group (group_of t group) layouts in
     let least = r.least in
     subst (λ (bytes : List ℕ). Spells bytes agi)
-    (sym (at_metadata g t lists image group 2 (spelling agi) r.size r.below (omega arith) (at_header g lists group (group_of t group))))
-    (l.headers.spelled agi (header_allowed g group (group_of t group) lists) (header_fits g t lists image group r))
+    (sym (at_metadata g t layouts image group 2 (spelling agi) r.size r.below (omega arith) (at_header g layouts group (group_of t group))))
+    (l.headers.spelled agi (header_allowed g group (group_of t group) layouts r.page_low r.page_high) (header_fits g t layouts image group r))
 
-pub header_is : (l : Lower) (g : Geometry) (t : Table) (lists : Lists) (image : List Sector) (group : ℕ) → IsReady g t lists image group
-    → header_of g (spelled g t lists image) group ≡ header_for g group (group_of t group) lists
+pub header_is : (l : Lower) (g : Geometry) (t : Table) (layouts : Layouts) (image : List Sector) (group : ℕ) → IsReady g t layouts image group
+    → header_of g (spelled g t layouts image) group ≡ header_for g group (group_of t group) layouts
 unfolding header_of
-header_is l g t lists image group r =
-    l.headers.read (bytes_at (spelled g t lists image) (sector_in g group 2)) (header_for g group (group_of t group) lists) (header_spelled l g t lists image group r)
+header_is l g t layouts image group r =
+    l.headers.read (bytes_at (spelled g t layouts image) (sector_in g group 2)) (header_for g group (group_of t group) layouts) (header_spelled l g t layouts image group r)
 
-record IsFor (g : Geometry) (group : ℕ) (agi : Agi) : Type 0 where
+record IsFor (g : Geometry) (layouts : Layouts) (group : ℕ) (agi : Agi) : Type 0 where
   own_group : agi.group ≡ group
   blocks : agi.blocks ≡ g.blocks
   uuid : agi.uuid ≡ g.uuid
-  root : agi.root ≡ 2
+  root : agi.root ≡ page_of layouts group
 
-is_for : (g : Geometry) (group : ℕ) (chunks : Group) (lists : Lists) → IsFor g group (header_for g group chunks lists)
+is_for : (g : Geometry) (group : ℕ) (chunks : Group) (layouts : Layouts) → IsFor g layouts group (header_for g group chunks layouts)
 unfolding header_for
-is_for g group chunks lists = record { own_group = refl; blocks = refl; uuid = refl; root = refl }
+is_for g group chunks layouts = record { own_group = refl; blocks = refl; uuid = refl; root = refl }
 
-header_read_for : (l : Lower) (g : Geometry) (t : Table) (lists : Lists) (image : List Sector) (group : ℕ) → IsReady g t lists image group
-    → IsFor g group (header_of g (spelled g t lists image) group)
-header_read_for l g t lists image group r = subst (IsFor g group) (sym (header_is l g t lists image group r)) (is_for g group (group_of t group) lists)
+header_read_for : (l : Lower) (g : Geometry) (t : Table) (layouts : Layouts) (image : List Sector) (group : ℕ) → IsReady g t layouts image group
+    → IsFor g layouts group (header_of g (spelled g t layouts image) group)
+header_read_for l g t layouts image group r = subst (IsFor g layouts group) (sym (header_is l g t layouts image group r)) (is_for g group (group_of t group) layouts)
 
-pub header_right : (l : Lower) (g : Geometry) (t : Table) (lists : Lists) (image : List Sector) (group : ℕ) → IsReady g t lists image group
-    → IsHeaderRight g (spelled g t lists image) group
-header_right l g t lists image group r =
-    let is = header_read_for l g t lists image group r in
+pub header_right : (l : Lower) (g : Geometry) (t : Table) (layouts : Layouts) (image : List Sector) (group : ℕ) → IsReady g t layouts image group
+    → IsHeaderRight g (spelled g t layouts image) group
+header_right l g t layouts image group r =
+    let is = header_read_for l g t layouts image group r in
     record {
-      spelled = subst (Spells (bytes_at (spelled g t lists image) (sector_in g group 2))) (sym (header_is l g t lists image group r)) (header_spelled l g t lists image group r);
+      spelled = subst (Spells (bytes_at (spelled g t layouts image) (sector_in g group 2))) (sym (header_is l g t layouts image group r)) (header_spelled l g t layouts image group r);
       own_group = is.own_group;
       blocks = is.blocks;
       uuid = is.uuid;
@@ -106,43 +106,44 @@ header_right l g t lists image group r =
 
 -- ---- the page
 
-pub page_sector_is : (l : Lower) (g : Geometry) (t : Table) (lists : Lists) (image : List Sector) (group : ℕ) → IsReady g t lists image group
-    → page_sector g (spelled g t lists image) group ≡ sector_in g group 16
-unfolding page_sector
-page_sector_is l g t lists image group r = ap (λ (root : ℕ). sector_in g group (8 * root)) (header_read_for l g t lists image group r).root
+pub page_sector_is : (l : Lower) (g : Geometry) (t : Table) (layouts : Layouts) (image : List Sector) (group : ℕ) → IsReady g t layouts image group
+    → page_sector g (spelled g t layouts image) group ≡ sector_in g group (page_place layouts group)
+unfolding page_sector page_place
+page_sector_is l g t layouts image group r = ap (λ (root : ℕ). sector_in g group (8 * root)) (header_read_for l g t layouts image group r).root
 
 sector_more : (g : Geometry) (group place k : ℕ) → sector_in g group place + k ≡ sector_in g group (place + k)
 unfolding sector_in
 sector_more g group place k = omega arith
 
-page_is : (l : Lower) (g : Geometry) (t : Table) (lists : Lists) (image : List Sector) (group : ℕ) → IsReady g t lists image group
-    → bytes_from (spelled g t lists image) (sector_in g group 16) 8 ≡ page_spelling (map record_of (group_of t group)) group (sector_in g group 16) g.uuid
+page_is : (l : Lower) (g : Geometry) (t : Table) (layouts : Layouts) (image : List Sector) (group : ℕ) → IsReady g t layouts image group
+    → bytes_from (spelled g t layouts image) (sector_in g group (page_place layouts group)) 8 ≡ page_spelling (map record_of (group_of t group)) group (sector_in g group (page_place layouts group)) g.uuid
 unfolding page_bytes
-page_is l g t lists image group r =
+page_is l g t layouts image group r =
     let least = r.least in
-    bytes_from_parts (spelled g t lists image) (page_bytes g group (group_of t group)) (sector_in g group 16) 8
-    (l.pages.long (map record_of (group_of t group)) group (sector_in g group 16) g.uuid r.leaf r.uuid)
-    (λ k lt. ap (bytes_at (spelled g t lists image)) (sector_more g group 16 k)
-    ∙ at_metadata g t lists image group (16 + k) (part k (page_bytes g group (group_of t group))) r.size r.below (omega arith) (at_page g lists group (group_of t group) k lt))
+    let high = r.page_high in
+    bytes_from_parts (spelled g t layouts image) (page_bytes g layouts group (group_of t group)) (sector_in g group (page_place layouts group)) 8
+    (l.pages.long (map record_of (group_of t group)) group (sector_in g group (page_place layouts group)) g.uuid r.leaf r.uuid)
+    (λ k lt. ap (bytes_at (spelled g t layouts image)) (sector_more g group (page_place layouts group) k)
+    ∙ at_metadata g t layouts image group (page_place layouts group + k) (part k (page_bytes g layouts group (group_of t group))) r.size r.below (omega arith) (at_page g layouts group (group_of t group) k r.page_low lt))
 
-pub records_are : (l : Lower) (g : Geometry) (t : Table) (lists : Lists) (image : List Sector) (group : ℕ) → IsReady g t lists image group
-    → records_of g (spelled g t lists image) group ≡ map record_of (group_of t group)
+pub records_are : (l : Lower) (g : Geometry) (t : Table) (layouts : Layouts) (image : List Sector) (group : ℕ) → IsReady g t layouts image group
+    → records_of g (spelled g t layouts image) group ≡ map record_of (group_of t group)
 unfolding records_of
-records_are l g t lists image group r =
-    ap (λ (s : ℕ). chunks_in (bytes_from (spelled g t lists image) s 8)) (page_sector_is l g t lists image group r)
-    ∙ ap chunks_in (page_is l g t lists image group r)
-    ∙ l.pages.read (map record_of (group_of t group)) group (sector_in g group 16) g.uuid r.leaf r.uuid
+records_are l g t layouts image group r =
+    ap (λ (s : ℕ). chunks_in (bytes_from (spelled g t layouts image) s 8)) (page_sector_is l g t layouts image group r)
+    ∙ ap chunks_in (page_is l g t layouts image group r)
+    ∙ l.pages.read (map record_of (group_of t group)) group (sector_in g group (page_place layouts group)) g.uuid r.leaf r.uuid
 
-pub page_right : (l : Lower) (g : Geometry) (t : Table) (lists : Lists) (image : List Sector) (group : ℕ) → IsReady g t lists image group
-    → IsPageRight g (spelled g t lists image) group
-page_right l g t lists image group r =
-    let new = spelled g t lists image in
-    let records = sym (records_are l g t lists image group r) in
-    let at = page_sector_is l g t lists image group r in
+pub page_right : (l : Lower) (g : Geometry) (t : Table) (layouts : Layouts) (image : List Sector) (group : ℕ) → IsReady g t layouts image group
+    → IsPageRight g (spelled g t layouts image) group
+page_right l g t layouts image group r =
+    let new = spelled g t layouts image in
+    let records = sym (records_are l g t layouts image group r) in
+    let at = page_sector_is l g t layouts image group r in
     record {
       leaf = subst IsLeaf records r.leaf;
-      spelled = ap (λ (s : ℕ). bytes_from new s 8) at ∙ page_is l g t lists image group r
-          ∙ ap (λ (cs : List ChunkRec). page_spelling cs group (sector_in g group 16) g.uuid) records
+      spelled = ap (λ (s : ℕ). bytes_from new s 8) at ∙ page_is l g t layouts image group r
+          ∙ ap (λ (cs : List ChunkRec). page_spelling cs group (sector_in g group (page_place layouts group)) g.uuid) records
           ∙ ap (λ (s : ℕ). page_spelling (records_of g new group) group s g.uuid) (sym at);
       in_data = subst (λ (cs : List ChunkRec). (k : ℕ) (d : ChunkRec) → k < length cs → IsInData g.blocks (get_or cs k d)) records
           (all_in_data_blocks g.blocks (group_of t group) r.is_group.chunks r.data_of);
@@ -154,14 +155,14 @@ record Counts (count free : ℕ) (chunks : List ChunkRec) : Type 0 where
   count_is : count ≡ 64 * length chunks
   free_is : free ≡ sum_by (λ (chunk : ChunkRec). chunk.free) chunks
 
-counted : (g : Geometry) (group : ℕ) (chunks : Group) (lists : Lists) → Counts (header_for g group chunks lists).count (header_for g group chunks lists).free (map record_of chunks)
+counted : (g : Geometry) (group : ℕ) (chunks : Group) (layouts : Layouts) → Counts (header_for g group chunks layouts).count (header_for g group chunks layouts).free (map record_of chunks)
 unfolding header_for
-counted g group chunks lists = record { count_is = ap (λ (n : ℕ). 64 * n) (sym (length-map chunks record_of)); free_is = sym (free_sum chunks) }
+counted g group chunks layouts = record { count_is = ap (λ (n : ℕ). 64 * n) (sym (length-map chunks record_of)); free_is = sym (free_sum chunks) }
 
-pub counts_right : (l : Lower) (g : Geometry) (t : Table) (lists : Lists) (image : List Sector) (group : ℕ) → IsReady g t lists image group
-    → AreCountsRight g (spelled g t lists image) group
-counts_right l g t lists image group r =
+pub counts_right : (l : Lower) (g : Geometry) (t : Table) (layouts : Layouts) (image : List Sector) (group : ℕ) → IsReady g t layouts image group
+    → AreCountsRight g (spelled g t layouts image) group
+counts_right l g t layouts image group r =
     let c =
-    subst (λ (cs : List ChunkRec). Counts (header_of g (spelled g t lists image) group).count (header_of g (spelled g t lists image) group).free cs) (sym (records_are l g t lists image group r))
-    (subst (λ (agi : Agi). Counts agi.count agi.free (map record_of (group_of t group))) (sym (header_is l g t lists image group r)) (counted g group (group_of t group) lists)) in
+    subst (λ (cs : List ChunkRec). Counts (header_of g (spelled g t layouts image) group).count (header_of g (spelled g t layouts image) group).free cs) (sym (records_are l g t layouts image group r))
+    (subst (λ (agi : Agi). Counts agi.count agi.free (map record_of (group_of t group))) (sym (header_is l g t layouts image group r)) (counted g group (group_of t group) layouts)) in
     record { count = c.count_is; free = c.free_is }

@@ -24,7 +24,7 @@ use Rattle.life_table.specs.Space.{times, row_blocks}
 use Rattle.life_table.specs.WellFormed.{IsRow, IsGroup}
 use Rattle.sound_image.specs.Places.{bytes_at, sector_in, number_in}
 use Rattle.sound_image.specs.Reading.{core_of, blocks_in}
-use Rattle.sound_image.specs.Spelling.{Lists, list_of, head_of, next_in, core_for, fork_for, inode_sector, spelled}
+use Rattle.sound_image.specs.Spelling.{Layouts, list_of, head_of, next_in, core_for, fork_for, inode_sector, spelled}
 use Rattle.sound_image.proofs.Groups.{times_here, times_later, in_range, is_inode, row_blocks_used}
 use Rattle.sound_image.proofs.Metadata.{at_inode}
 use Rattle.sound_image.proofs.Ready.{Lower, IsReady, member_range}
@@ -47,11 +47,11 @@ next_small (m ∷ members) agino each =
     first [] each = lit< tt
     first (m ∷ members) each = each m (times_here m members)
 
-next_of : (g : Geometry) (t : Table) (lists : Lists) (image : List Sector) (group agino : ℕ) → IsReady g t lists image group → next_in (list_of lists group (agino % 64)) agino < 2 ^ 32
-next_of g t lists image group agino r =
+next_of : (g : Geometry) (t : Table) (layouts : Layouts) (image : List Sector) (group agino : ℕ) → IsReady g t layouts image group → next_in (list_of layouts group (agino % 64)) agino < 2 ^ 32
+next_of g t layouts image group agino r =
     let most = r.most in
-    next_small (list_of lists group (agino % 64)) agino
-    (λ m some. let range = member_range g t lists image group (agino % 64) m r (omega arith) some in omega arith)
+    next_small (list_of layouts group (agino % 64)) agino
+    (λ m some. let range = member_range g t layouts image group (agino % 64) m r (omega arith) some in omega arith)
 
 -- ---- blocks of rows
 
@@ -93,9 +93,9 @@ pub record StoredRow (l : Lower) (row : Row) (generation : ℕ) : Type 0 where
   pub is : IsRow generation row
   pub runs : AreRuns (runs row.blocks)
 
-row_stored : (l : Lower) (g : Geometry) (t : Table) (lists : Lists) (image : List Sector) (group agino : ℕ) (x : Inode) (row : Row) → IsReady g t lists image group
+row_stored : (l : Lower) (g : Geometry) (t : Table) (layouts : Layouts) (image : List Sector) (group agino : ℕ) (x : Inode) (row : Row) → IsReady g t layouts image group
     → inode_in (group_of t group) agino ≡ Some x → x.row ≡ Some row → StoredRow l row x.generation
-row_stored l g t lists image group agino x row r found live =
+row_stored l g t layouts image group agino x row r found live =
     record {
       is = subst (λ (o : Option Row). IfSome o (IsRow x.generation)) live (is_inode (group_of t group) agino x r.is_group.chunks found).row;
       runs = runs_of_row l g.blocks (group_of t group) agino x row r.most r.is_group found live;
@@ -129,39 +129,39 @@ stands l group generation next uuid (Some row) wide low high small stored =
       free = λ e. absurd (true≢false e);
     }
 
-abbrev pub next_for : Lists → ℕ → ℕ → ℕ
-next_for lists group agino = next_in (list_of lists group (agino % 64)) agino
+abbrev pub next_for : Layouts → ℕ → ℕ → ℕ
+next_for layouts group agino = next_in (list_of layouts group (agino % 64)) agino
 
-can_stand : (l : Lower) (g : Geometry) (t : Table) (lists : Lists) (image : List Sector) (group agino : ℕ) (x : Inode) → IsReady g t lists image group
-    → inode_in (group_of t group) agino ≡ Some x → CanStand (core_for x.generation x.row (next_for lists group agino)) g.uuid (fork_for group x.row)
-can_stand l g t lists image group agino x r found =
+can_stand : (l : Lower) (g : Geometry) (t : Table) (layouts : Layouts) (image : List Sector) (group agino : ℕ) (x : Inode) → IsReady g t layouts image group
+    → inode_in (group_of t group) agino ≡ Some x → CanStand (core_for x.generation x.row (next_for layouts group agino)) g.uuid (fork_for group x.row)
+can_stand l g t layouts image group agino x r found =
     let is = is_inode (group_of t group) agino x r.is_group.chunks found in
-    stands l group x.generation (next_for lists group agino) g.uuid x.row r.uuid is.first is.last (next_of g t lists image group agino r)
-    (λ row live. row_stored l g t lists image group agino x row r found live)
+    stands l group x.generation (next_for layouts group agino) g.uuid x.row r.uuid is.first is.last (next_of g t layouts image group agino r)
+    (λ row live. row_stored l g t layouts image group agino x row r found live)
 
-pub sector_is : (l : Lower) (g : Geometry) (t : Table) (lists : Lists) (image : List Sector) (group agino : ℕ) (x : Inode) → IsReady g t lists image group
+pub sector_is : (l : Lower) (g : Geometry) (t : Table) (layouts : Layouts) (image : List Sector) (group agino : ℕ) (x : Inode) → IsReady g t layouts image group
     → inode_in (group_of t group) agino ≡ Some x
-    → bytes_at (spelled g t lists image) (sector_in g group agino) ≡ spelling (core_for x.generation x.row (next_for lists group agino)) (number_in group agino) g.uuid (fork_for group x.row)
+    → bytes_at (spelled g t layouts image) (sector_in g group agino) ≡ spelling (core_for x.generation x.row (next_for layouts group agino)) (number_in group agino) g.uuid (fork_for group x.row)
 unfolding inode_sector
-sector_is l g t lists image group agino x r found =
+sector_is l g t layouts image group agino x r found =
     let range = in_range g.blocks (group_of t group) agino x r.data_of found in
-    at_metadata g t lists image group agino (inode_sector g lists group agino x) r.size r.below (omega arith)
-    (at_inode g lists group (group_of t group) agino (omega arith) ∙ ap (option_map (inode_sector g lists group agino)) found)
+    at_metadata g t layouts image group agino (inode_sector g layouts group agino x) r.size r.below (omega arith)
+    (at_inode g layouts group (group_of t group) agino r.page_low (omega (arith, r.page_high)) ∙ ap (option_map (inode_sector g layouts group agino)) found)
 
 -- what the sector of an inode spells
-pub record Stored (g : Geometry) (new : List Sector) (lists : Lists) (group agino : ℕ) (x : Inode) : Type 0 where
-  pub core_is : core_of g new group agino ≡ core_for x.generation x.row (next_for lists group agino)
-  pub spelled : Spells (bytes_at new (sector_in g group agino)) (number_in group agino) g.uuid (core_for x.generation x.row (next_for lists group agino))
+pub record Stored (g : Geometry) (new : List Sector) (layouts : Layouts) (group agino : ℕ) (x : Inode) : Type 0 where
+  pub core_is : core_of g new group agino ≡ core_for x.generation x.row (next_for layouts group agino)
+  pub spelled : Spells (bytes_at new (sector_in g group agino)) (number_in group agino) g.uuid (core_for x.generation x.row (next_for layouts group agino))
   pub fork_is : fork_of (bytes_at new (sector_in g group agino)) ≡ fork_for group x.row
 
-pub stored : (l : Lower) (g : Geometry) (t : Table) (lists : Lists) (image : List Sector) (group agino : ℕ) (x : Inode) → IsReady g t lists image group
-    → inode_in (group_of t group) agino ≡ Some x → Stored g (spelled g t lists image) lists group agino x
+pub stored : (l : Lower) (g : Geometry) (t : Table) (layouts : Layouts) (image : List Sector) (group agino : ℕ) (x : Inode) → IsReady g t layouts image group
+    → inode_in (group_of t group) agino ≡ Some x → Stored g (spelled g t layouts image) layouts group agino x
 unfolding core_of
-stored l g t lists image group agino x r found =
-    let new = spelled g t lists image in
-    let core = core_for x.generation x.row (next_for lists group agino) in
-    let can = can_stand l g t lists image group agino x r found in
-    let at = sector_is l g t lists image group agino x r found in
+stored l g t layouts image group agino x r found =
+    let new = spelled g t layouts image in
+    let core = core_for x.generation x.row (next_for layouts group agino) in
+    let can = can_stand l g t layouts image group agino x r found in
+    let at = sector_is l g t layouts image group agino x r found in
     let spells = l.cores.spelled core (number_in group agino) g.uuid (fork_for group x.row) can in
     record {
       core_is = ap core_in at ∙ l.cores.read (spelling core (number_in group agino) g.uuid (fork_for group x.row)) g.uuid (number_in group agino) core
@@ -189,13 +189,13 @@ fork_says : (group : ℕ) (o : Option Row) (row : Row) → o ≡ Some row → fo
 unfolding fork_for
 fork_says group o row live = ap (fork_for group) live
 
-pub stored_runs : (l : Lower) (g : Geometry) (t : Table) (lists : Lists) (image : List Sector) (group agino : ℕ) (x : Inode) (row : Row) → IsReady g t lists image group
-    → inode_in (group_of t group) agino ≡ Some x → x.row ≡ Some row → StoredRuns g (spelled g t lists image) group agino row
-stored_runs l g t lists image group agino x row r found live =
-    let new = spelled g t lists image in
-    let s = stored l g t lists image group agino x r found in
-    let says = core_says (core_of g new group agino) x.generation (next_for lists group agino) x.row row s.core_is live in
-    let sr = row_stored l g t lists image group agino x row r found live in
+pub stored_runs : (l : Lower) (g : Geometry) (t : Table) (layouts : Layouts) (image : List Sector) (group agino : ℕ) (x : Inode) (row : Row) → IsReady g t layouts image group
+    → inode_in (group_of t group) agino ≡ Some x → x.row ≡ Some row → StoredRuns g (spelled g t layouts image) group agino row
+stored_runs l g t layouts image group agino x row r found live =
+    let new = spelled g t layouts image in
+    let s = stored l g t layouts image group agino x r found in
+    let says = core_says (core_of g new group agino) x.generation (next_for layouts group agino) x.row row s.core_is live in
+    let sr = row_stored l g t layouts image group agino x row r found live in
     let few = sr.is.runs in
     let has : HasFork (bytes_at new (sector_in g group agino)) (length (runs row.blocks)) group (runs row.blocks) =
     record { runs = sr.runs; many = refl; spelled = s.fork_is ∙ fork_says group x.row row live } in
@@ -207,16 +207,16 @@ stored_runs l g t lists image group agino x row r found live =
       read = l.forks.read (bytes_at new (sector_in g group agino)) (length (runs row.blocks)) group (runs row.blocks) r.small few has;
     }
 
-pub next_is : (l : Lower) (g : Geometry) (t : Table) (lists : Lists) (image : List Sector) (group agino : ℕ) (x : Inode) (row : Row) → IsReady g t lists image group
-    → inode_in (group_of t group) agino ≡ Some x → x.row ≡ Some row → (core_of g (spelled g t lists image) group agino).next ≡ next_for lists group agino
-next_is l g t lists image group agino x row r found live =
-    let new = spelled g t lists image in
-    (core_says (core_of g new group agino) x.generation (next_for lists group agino) x.row row (stored l g t lists image group agino x r found).core_is live).3
+pub next_is : (l : Lower) (g : Geometry) (t : Table) (layouts : Layouts) (image : List Sector) (group agino : ℕ) (x : Inode) (row : Row) → IsReady g t layouts image group
+    → inode_in (group_of t group) agino ≡ Some x → x.row ≡ Some row → (core_of g (spelled g t layouts image) group agino).next ≡ next_for layouts group agino
+next_is l g t layouts image group agino x row r found live =
+    let new = spelled g t layouts image in
+    (core_says (core_of g new group agino) x.generation (next_for layouts group agino) x.row row (stored l g t layouts image group agino x r found).core_is live).3
 
-pub blocks_are : (l : Lower) (g : Geometry) (t : Table) (lists : Lists) (image : List Sector) (group agino : ℕ) (x : Inode) (row : Row) → IsReady g t lists image group
-    → inode_in (group_of t group) agino ≡ Some x → x.row ≡ Some row → blocks_in g (spelled g t lists image) group agino ≡ row.blocks
+pub blocks_are : (l : Lower) (g : Geometry) (t : Table) (layouts : Layouts) (image : List Sector) (group agino : ℕ) (x : Inode) (row : Row) → IsReady g t layouts image group
+    → inode_in (group_of t group) agino ≡ Some x → x.row ≡ Some row → blocks_in g (spelled g t layouts image) group agino ≡ row.blocks
 unfolding blocks_in
-blocks_are l g t lists image group agino x row r found live =
-    let new = spelled g t lists image in
-    let s = stored_runs l g t lists image group agino x row r found live in
+blocks_are l g t layouts image group agino x row r found live =
+    let new = spelled g t layouts image in
+    let s = stored_runs l g t layouts image group agino x row r found live in
     ap (λ (n : ℕ). flat_map blocks_of (runs_in n (bytes_at new (sector_in g group agino)))) s.extents ∙ ap (flat_map blocks_of) s.read ∙ l.forks.blocks row.blocks

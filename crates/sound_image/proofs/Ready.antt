@@ -17,7 +17,7 @@ use Rattle.life_table.specs.declared.types.Row.{Row}
 use Rattle.life_table.specs.Table.{Inode, Group, Table, group_of, inode_in}
 use Rattle.life_table.specs.Space.{times}
 use Rattle.life_table.specs.WellFormed.{IsGroup}
-use Rattle.sound_image.specs.Spelling.{Lists, CanSpell, list_of, is_unlinked, is_unlinked_row, record_of}
+use Rattle.sound_image.specs.Spelling.{page_place, Layouts, CanSpell, list_of, is_unlinked, is_unlinked_row, record_of}
 use Rattle.sound_image.proofs.Groups.{InData, all_in_data, in_range}
 use Rattle.sound_image.proofs.Leaves.{leaf_right}
 
@@ -29,7 +29,7 @@ pub record Lower : Type 0 where
   pub forks : ForksAreRead
   pub bits : BitsAreHeld
 
-pub record IsReady (g : Geometry) (t : Table) (lists : Lists) (image : List Sector) (group : ℕ) : Type 0 where
+pub record IsReady (g : Geometry) (t : Table) (layouts : Layouts) (image : List Sector) (group : ℕ) : Type 0 where
   pub below : group < g.groups
   pub small : group < 16
   pub least : 64 ≤ g.blocks
@@ -38,12 +38,19 @@ pub record IsReady (g : Geometry) (t : Table) (lists : Lists) (image : List Sect
   pub size : g.groups * group_sectors g ≤ length image
   pub is_group : IsGroup g.blocks (group_of t group)
   pub data_of : AllByRecursion (InData g.blocks) (group_of t group)
+  pub page_low : 16 ≤ page_place layouts group
+  pub page_high : page_place layouts group ≤ 136
   pub leaf : IsLeaf (map record_of (group_of t group))
   pub members : (bucket agino : ℕ) → bucket < 64
-      → times agino (list_of lists group bucket) ≡ cond (eqb (agino % 64) bucket && is_unlinked (inode_in (group_of t group) agino)) 1 0
+      → times agino (list_of layouts group bucket) ≡ cond (eqb (agino % 64) bucket && is_unlinked (inode_in (group_of t group) agino)) 1 0
 
-pub ready : (g : Geometry) (t : Table) (lists : Lists) (image : List Sector) (group : ℕ) → CanSpell g t lists image → group < g.groups → IsReady g t lists image group
-ready g t lists image group can lt =
+page_range : (g : Geometry) (t : Table) (layouts : Layouts) (image : List Sector) (group : ℕ) → CanSpell g t layouts image → group < length t.groups
+    → (16 ≤ page_place layouts group) × (page_place layouts group ≤ 136)
+unfolding page_place
+page_range g t layouts image group can lt = let range = can.layouts_of.pages group lt in (omega (arith, range.0), omega (arith, range.1))
+
+pub ready : (g : Geometry) (t : Table) (layouts : Layouts) (image : List Sector) (group : ℕ) → CanSpell g t layouts image → group < g.groups → IsReady g t layouts image group
+ready g t layouts image group can lt =
     let few = can.shape.blocks in
     let many = can.shape.groups in
     let same = can.groups in
@@ -58,11 +65,13 @@ ready g t lists image group can lt =
       size = can.size;
       is_group = is;
       data_of = data_of;
+      page_low = (page_range g t layouts image group can (omega arith)).0;
+      page_high = (page_range g t layouts image group can (omega arith)).1;
       leaf = leaf_right g.blocks (group_of t group) few.1 is.few is.chunks data_of is.ascends;
-      members = λ bucket agino low. can.buckets group bucket agino (omega arith) low;
+      members = λ bucket agino low. can.layouts_of.buckets group bucket agino (omega arith) low;
     }
 
--- ---- members of lists
+-- ---- members of layouts
 
 pub record Unlinked (group : Group) (agino : ℕ) : Type 0 where
   pub inode : Inode
@@ -100,37 +109,37 @@ test_true : (b : Bool) → 1 ≤ cond {A = ℕ} b 1 0 → b ≡ true
 test_true true h = refl
 test_true false h = absurd (omega arith)
 
-pub member : (g : Geometry) (t : Table) (lists : Lists) (image : List Sector) (group bucket agino : ℕ) → IsReady g t lists image group → bucket < 64
-    → 1 ≤ times agino (list_of lists group bucket) → Member (group_of t group) bucket agino
-member g t lists image group bucket agino r low some =
+pub member : (g : Geometry) (t : Table) (layouts : Layouts) (image : List Sector) (group bucket agino : ℕ) → IsReady g t layouts image group → bucket < 64
+    → 1 ≤ times agino (list_of layouts group bucket) → Member (group_of t group) bucket agino
+member g t layouts image group bucket agino r low some =
     let test = eqb (agino % 64) bucket && is_unlinked (inode_in (group_of t group) agino) in
     let both = and_parts (eqb (agino % 64) bucket) (is_unlinked (inode_in (group_of t group) agino)) (test_true test (subst (λ (n : ℕ). 1 ≤ n) (r.members bucket agino low) some)) in
     record { own = eqb-true (agino % 64) bucket both.0; unlinked = unlinked (group_of t group) agino both.1 }
 
-pub member_range : (g : Geometry) (t : Table) (lists : Lists) (image : List Sector) (group bucket agino : ℕ) → IsReady g t lists image group → bucket < 64
-    → 1 ≤ times agino (list_of lists group bucket) → (192 ≤ agino) × (agino < g.blocks * 8)
-member_range g t lists image group bucket agino r low some =
-    let m = (member g t lists image group bucket agino r low some).unlinked in
+pub member_range : (g : Geometry) (t : Table) (layouts : Layouts) (image : List Sector) (group bucket agino : ℕ) → IsReady g t layouts image group → bucket < 64
+    → 1 ≤ times agino (list_of layouts group bucket) → (192 ≤ agino) × (agino < g.blocks * 8)
+member_range g t layouts image group bucket agino r low some =
+    let m = (member g t layouts image group bucket agino r low some).unlinked in
     in_range g.blocks (group_of t group) agino m.inode r.data_of m.found
 
-pub member_once : (g : Geometry) (t : Table) (lists : Lists) (image : List Sector) (group bucket agino : ℕ) → IsReady g t lists image group → bucket < 64
-    → times agino (list_of lists group bucket) ≤ 1
-member_once g t lists image group bucket agino r low = at_most (eqb (agino % 64) bucket && is_unlinked (inode_in (group_of t group) agino)) (r.members bucket agino low)
+pub member_once : (g : Geometry) (t : Table) (layouts : Layouts) (image : List Sector) (group bucket agino : ℕ) → IsReady g t layouts image group → bucket < 64
+    → times agino (list_of layouts group bucket) ≤ 1
+member_once g t layouts image group bucket agino r low = at_most (eqb (agino % 64) bucket && is_unlinked (inode_in (group_of t group) agino)) (r.members bucket agino low)
   where
     at_most : {n : ℕ} (b : Bool) → n ≡ cond b 1 0 → n ≤ 1
     at_most true e = omega arith
     at_most false e = omega arith
 
 -- a number without links is in the list of its bucket
-pub unlinked_listed : (g : Geometry) (t : Table) (lists : Lists) (image : List Sector) (group agino : ℕ) → IsReady g t lists image group
-    → is_unlinked (inode_in (group_of t group) agino) ≡ true → times agino (list_of lists group (agino % 64)) ≡ 1
-unlinked_listed g t lists image group agino r e =
+pub unlinked_listed : (g : Geometry) (t : Table) (layouts : Layouts) (image : List Sector) (group agino : ℕ) → IsReady g t layouts image group
+    → is_unlinked (inode_in (group_of t group) agino) ≡ true → times agino (list_of layouts group (agino % 64)) ≡ 1
+unlinked_listed g t layouts image group agino r e =
     r.members (agino % 64) agino (omega arith)
     ∙ cond-true (eqb (agino % 64) (agino % 64) && is_unlinked (inode_in (group_of t group) agino)) 1 0 (and_from _ _ (eq-eqb (agino % 64) (agino % 64) refl) e)
 
-pub linked_not_listed : (g : Geometry) (t : Table) (lists : Lists) (image : List Sector) (group agino : ℕ) → IsReady g t lists image group
-    → is_unlinked (inode_in (group_of t group) agino) ≡ false → times agino (list_of lists group (agino % 64)) ≡ 0
-linked_not_listed g t lists image group agino r e =
+pub linked_not_listed : (g : Geometry) (t : Table) (layouts : Layouts) (image : List Sector) (group agino : ℕ) → IsReady g t layouts image group
+    → is_unlinked (inode_in (group_of t group) agino) ≡ false → times agino (list_of layouts group (agino % 64)) ≡ 0
+linked_not_listed g t layouts image group agino r e =
     r.members (agino % 64) agino (omega arith) ∙ none (eqb (agino % 64) (agino % 64)) (is_unlinked (inode_in (group_of t group) agino)) e
   where
     none : (a b : Bool) → b ≡ false → cond {A = ℕ} (a && b) 1 0 ≡ 0

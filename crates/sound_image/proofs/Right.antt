@@ -18,7 +18,7 @@ use Rattle.life_table.specs.History.{closed_inode, closed_row}
 use Rattle.sound_image.specs.Places.{bytes_at, part, sector_in, number_in}
 use Rattle.sound_image.specs.Reading.{inode_at, row_at}
 use Rattle.sound_image.specs.Rules.{IsCoreRight, IsForkRight, AreBlocksAlone, IsIn, free_set, IsBitmapRight}
-use Rattle.sound_image.specs.Spelling.{Lists, core_for, spelled}
+use Rattle.sound_image.specs.Spelling.{Layouts, core_for, spelled}
 use Rattle.sound_image.proofs.Groups.{times-nil, row_blocks_used, two_rows_used, chunk_and_row_used}
 use Rattle.sound_image.proofs.Inodes.{stored, stored_runs, blocks_are, next_for, data_of_row}
 use Rattle.sound_image.proofs.Leaves.{no_chunk}
@@ -34,27 +34,27 @@ unfolding core_for
 live_for generation next None = refl
 live_for generation next (Some row) = refl
 
-pub core_right : (l : Lower) (g : Geometry) (t : Table) (lists : Lists) (image : List Sector) (group agino : ℕ) (inode : Inode) → IsReady g t lists image group
-    → inode_at g (spelled g t lists image) group agino ≡ Some inode → IsCoreRight g (spelled g t lists image) group agino inode
-core_right l g t lists image group agino inode r e =
-    let new = spelled g t lists image in
-    let x = is_read l g t lists image group agino inode r e in
-    let s = stored l g t lists image group agino x.held r x.found in
+pub core_right : (l : Lower) (g : Geometry) (t : Table) (layouts : Layouts) (image : List Sector) (group agino : ℕ) (inode : Inode) → IsReady g t layouts image group
+    → inode_at g (spelled g t layouts image) group agino ≡ Some inode → IsCoreRight g (spelled g t layouts image) group agino inode
+core_right l g t layouts image group agino inode r e =
+    let new = spelled g t layouts image in
+    let x = is_read l g t layouts image group agino inode r e in
+    let s = stored l g t layouts image group agino x.held r x.found in
     record {
       spelled = subst (λ (core : Core). Spells (bytes_at new (sector_in g group agino)) (number_in group agino) g.uuid core) (sym s.core_is) s.spelled;
-      live = ap (λ (core : Core). core.live) s.core_is ∙ live_for x.held.generation (next_for lists group agino) x.held.row ∙ ap (λ (i : Inode). is_some i.row) (sym x.same);
+      live = ap (λ (core : Core). core.live) s.core_is ∙ live_for x.held.generation (next_for layouts group agino) x.held.row ∙ ap (λ (i : Inode). is_some i.row) (sym x.same);
     }
 
 -- ---- forks
 
-pub fork_right : (l : Lower) (g : Geometry) (t : Table) (lists : Lists) (image : List Sector) (group agino : ℕ) (row : Row) → IsReady g t lists image group
-    → row_at g (spelled g t lists image) group agino ≡ Some row → IsForkRight g (spelled g t lists image) group agino
-fork_right l g t lists image group agino row r e =
-    let new = spelled g t lists image in
+pub fork_right : (l : Lower) (g : Geometry) (t : Table) (layouts : Layouts) (image : List Sector) (group agino : ℕ) (row : Row) → IsReady g t layouts image group
+    → row_at g (spelled g t layouts image) group agino ≡ Some row → IsForkRight g (spelled g t layouts image) group agino
+fork_right l g t layouts image group agino row r e =
+    let new = spelled g t layouts image in
     let bytes = bytes_at new (sector_in g group agino) in
-    let x = is_row_read l g t lists image group agino row r e in
-    let s = stored_runs l g t lists image group agino x.inode x.held r x.found x.live in
-    let blocks = blocks_are l g t lists image group agino x.inode x.held r x.found x.live in
+    let x = is_row_read l g t layouts image group agino row r e in
+    let s = stored_runs l g t layouts image group agino x.inode x.held r x.found x.live in
+    let blocks = blocks_are l g t layouts image group agino x.inode x.held r x.found x.live in
     record {
       runs = subst (λ (n : ℕ). HasFork bytes n group (runs_in n bytes)) (sym s.extents) (subst (HasFork bytes (length (runs x.held.blocks)) group) (sym s.read) s.has);
       in_group = subst (λ (bs : List ℕ). (k d : ℕ) → k < length bs → get_or bs k d < g.blocks) (sym blocks)
@@ -76,15 +76,15 @@ none_of : (b : ℕ) (o : Option Row) → 1 ≤ times b (row_blocks o) → (row :
 none_of b None some = absurd (omega (arith, times-nil b))
 none_of b (Some row) some = (row, refl)
 
-pub blocks_right : (l : Lower) (g : Geometry) (t : Table) (lists : Lists) (image : List Sector) (group agino : ℕ) (row : Row) → IsReady g t lists image group
-    → row_at g (spelled g t lists image) group agino ≡ Some row → AreBlocksAlone g (spelled g t lists image) group agino row
-blocks_right l g t lists image group agino row r e =
-    let new = spelled g t lists image in
+pub blocks_right : (l : Lower) (g : Geometry) (t : Table) (layouts : Layouts) (image : List Sector) (group agino : ℕ) (row : Row) → IsReady g t layouts image group
+    → row_at g (spelled g t layouts image) group agino ≡ Some row → AreBlocksAlone g (spelled g t layouts image) group agino row
+blocks_right l g t layouts image group agino row r e =
+    let new = spelled g t layouts image in
     let chunks = group_of t group in
-    let x = is_row_read l g t lists image group agino row r e in
+    let x = is_row_read l g t layouts image group agino row r e in
     let own : (b : ℕ) → times b (row_blocks x.inode.row) ≡ times b row.blocks = λ b. ap (times b) (own_blocks chunks agino row x) in
     record {
-      in_no_chunk = λ b has. subst (λ (cs : Group). (k : ℕ) (d : Chunk) → k < length cs → IsIn b (chunk_blocks (get_or cs k d)) → ⊥) (sym (group_is l g t lists image group r))
+      in_no_chunk = λ b has. subst (λ (cs : Group). (k : ℕ) (d : Chunk) → k < length cs → IsIn b (chunk_blocks (get_or cs k d)) → ⊥) (sym (group_is l g t layouts image group r))
           (λ k d lt there.
           let within : k < length chunks = omega (arith, lt, length-map chunks closed_chunk) in
           let c : Chunk = get_or chunks k no_chunk in
@@ -93,7 +93,7 @@ blocks_right l g t lists image group agino row r e =
           omega (arith, same, has, there, own b, r.is_group.once b, chunk_and_row_used b chunks k no_chunk agino x.inode within x.found));
       in_none_below = λ b other has lt there.
           let o = none_of b (row_at g new group other) there in
-          let y = is_row_read l g t lists image group other o.0 r o.1 in
+          let y = is_row_read l g t layouts image group other o.0 r o.1 in
           let theirs : times b (row_blocks (row_at g new group other)) ≡ times b (row_blocks y.inode.row) = ap (λ (o : Option Row). times b (row_blocks o)) o.1 ∙ ap (times b) (sym (own_blocks chunks other o.0 y)) in
           omega (arith, theirs, has, there, own b, r.is_group.once b, two_rows_used b chunks agino other x.inode y.inode (λ q. omega (arith, q, lt)) x.found y.found);
       once = λ b. omega (arith, own b, r.is_group.once b, row_blocks_used b chunks agino x.inode x.found);
@@ -131,9 +131,9 @@ free_set_closed : (blocks : ℕ) (chunks : Group) → free_set blocks (map close
 unfolding free_set
 free_set_closed blocks chunks = same_tests (is_free_block blocks (map closed_chunk chunks)) (is_free_block blocks chunks) (range_with_len 0 blocks) (free_closed blocks chunks)
 
-pub bitmap_right : (l : Lower) (g : Geometry) (t : Table) (lists : Lists) (image : List Sector) (group k : ℕ) → IsReady g t lists image group → k < 4
-    → IsBitmapRight g (spelled g t lists image) group k
-bitmap_right l g t lists image group k r lt =
+pub bitmap_right : (l : Lower) (g : Geometry) (t : Table) (layouts : Layouts) (image : List Sector) (group k : ℕ) → IsReady g t layouts image group → k < 4
+    → IsBitmapRight g (spelled g t layouts image) group k
+bitmap_right l g t layouts image group k r lt =
     let least = r.least in
-    at_metadata g t lists image group (8 + k) (part k (bitmap (free_set g.blocks (group_of t group)))) r.size r.below (omega arith) (at_bitmap g lists group (group_of t group) k lt)
-    ∙ sym (ap (λ (cs : Group). part k (bitmap (free_set g.blocks cs))) (group_is l g t lists image group r) ∙ ap (λ (set : List Bool). part k (bitmap set)) (free_set_closed g.blocks (group_of t group)))
+    at_metadata g t layouts image group (8 + k) (part k (bitmap (free_set g.blocks (group_of t group)))) r.size r.below (omega arith) (at_bitmap g layouts group (group_of t group) k lt)
+    ∙ sym (ap (λ (cs : Group). part k (bitmap (free_set g.blocks cs))) (group_is l g t layouts image group r) ∙ ap (λ (set : List Bool). part k (bitmap set)) (free_set_closed g.blocks (group_of t group)))

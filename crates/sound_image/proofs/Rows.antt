@@ -18,7 +18,7 @@ use Rattle.life_table.specs.Table.{Inode, Chunk, Group, Table, group_of, inode_i
 use Rattle.life_table.specs.History.{closed, closed_inode, closed_row}
 use Rattle.life_table.specs.WellFormed.{IsChunk, Ascends}
 use Rattle.sound_image.specs.Reading.{core_of, blocks_in, inode_read, chunk_read, group_read, rows_of, inode_at, row_at}
-use Rattle.sound_image.specs.Spelling.{Lists, CanSpell, mask_of, record_of, core_for, spelled}
+use Rattle.sound_image.specs.Spelling.{Layouts, CanSpell, mask_of, record_of, core_for, spelled}
 use Rattle.sound_image.proofs.Headers.{records_are}
 use Rattle.sound_image.proofs.Inodes.{stored, stored_runs, blocks_are, next_for}
 use Rattle.sound_image.proofs.Leaves.{unused, no_chunk, below_later}
@@ -65,18 +65,18 @@ mask_bit : (l : Lower) (inodes : List Inode) (i : ℕ) (d : Inode) → i < lengt
 unfolding mask_of
 mask_bit l inodes i d lt = l.bits.bit (map unused inodes) i ∙ get_or-map unused inodes i d false lt
 
-inode_is : (l : Lower) (g : Geometry) (t : Table) (lists : Lists) (image : List Sector) (group : ℕ) (c : Chunk) (i : ℕ) (x : Inode) → IsReady g t lists image group
-    → inode_in (group_of t group) (c.start + i) ≡ Some x → is_set (mask_of c.inodes) i ≡ is_none x.row → inode_read g (spelled g t lists image) group (record_of c) i ≡ closed_inode x
+inode_is : (l : Lower) (g : Geometry) (t : Table) (layouts : Layouts) (image : List Sector) (group : ℕ) (c : Chunk) (i : ℕ) (x : Inode) → IsReady g t layouts image group
+    → inode_in (group_of t group) (c.start + i) ≡ Some x → is_set (mask_of c.inodes) i ≡ is_none x.row → inode_read g (spelled g t layouts image) group (record_of c) i ≡ closed_inode x
 unfolding inode_read record_of
-inode_is l g t lists image group c i x r found bit =
-    let new = spelled g t lists image in
+inode_is l g t layouts image group c i x r found bit =
+    let new = spelled g t layouts image in
     let a : ℕ = c.start + i in
     let core = core_of g new group a in
     let generation : core.generation ≡ x.generation =
-    ap (λ (k : Core). k.generation) (stored l g t lists image group a x r found).core_is ∙ generation_for x.generation (next_for lists group a) x.row in
+    ap (λ (k : Core). k.generation) (stored l g t layouts image group a x r found).core_is ∙ generation_for x.generation (next_for layouts group a) x.row in
     let row : cond (is_set (mask_of c.inodes) i) None (Some (row_made core.links (blocks_in g new group a))) ≡ closed_row x.row =
     row_read x.row (is_set (mask_of c.inodes) i) core.links (blocks_in g new group a) bit
-    (λ row live. ((stored_runs l g t lists image group a x row r found live).links, blocks_are l g t lists image group a x row r found live)) in
+    (λ row live. ((stored_runs l g t layouts image group a x row r found live).links, blocks_are l g t layouts image group a x row r found live)) in
     ap (λ (n : ℕ). made n (cond (is_set (mask_of c.inodes) i) None (Some (row_made core.links (blocks_in g new group a))))) generation ∙ ap (made x.generation) row
 
 -- ---- one chunk
@@ -90,11 +90,11 @@ chunk_made start inodes = record { start = start; inodes = inodes }
 no_inode : Inode
 no_inode = record { generation = 0; row = None }
 
-chunk_is : (l : Lower) (g : Geometry) (t : Table) (lists : Lists) (image : List Sector) (group k : ℕ) (d : Chunk) → IsReady g t lists image group → k < length (group_of t group)
-    → chunk_read g (spelled g t lists image) group (record_of (get_or (group_of t group) k d)) ≡ closed_chunk (get_or (group_of t group) k d)
+chunk_is : (l : Lower) (g : Geometry) (t : Table) (layouts : Layouts) (image : List Sector) (group k : ℕ) (d : Chunk) → IsReady g t layouts image group → k < length (group_of t group)
+    → chunk_read g (spelled g t layouts image) group (record_of (get_or (group_of t group) k d)) ≡ closed_chunk (get_or (group_of t group) k d)
 unfolding chunk_read record_of
-chunk_is l g t lists image group k d r lt =
-    let new = spelled g t lists image in
+chunk_is l g t layouts image group k d r lt =
+    let new = spelled g t layouts image in
     let c : Chunk = get_or (group_of t group) k d in
     let is = All-from_recursion IsChunk (group_of t group) r.is_group.chunks k d lt in
     let f : ℕ → Inode = inode_read g new group (record_of c) in
@@ -107,26 +107,26 @@ chunk_is l g t lists image group k d r lt =
     let found : inode_in (group_of t group) (c.start + i) ≡ Some x =
     in_chunk (group_of t group) k i d r.is_group.ascends r.is_group.chunks lt below ∙ slice_get-get_or c.inodes i no_inode within in
     get_or-map-range_with_len f 0 64 i i e below (omega arith)
-    ∙ inode_is l g t lists image group c i x r found (mask_bit l c.inodes i no_inode within)
+    ∙ inode_is l g t layouts image group c i x r found (mask_bit l c.inodes i no_inode within)
     ∙ sym (get_or-map closed_inode c.inodes i no_inode e within)))
 
 -- ---- one group
 
-pub group_is : (l : Lower) (g : Geometry) (t : Table) (lists : Lists) (image : List Sector) (group : ℕ) → IsReady g t lists image group
-    → group_read g (spelled g t lists image) group ≡ map closed_chunk (group_of t group)
+pub group_is : (l : Lower) (g : Geometry) (t : Table) (layouts : Layouts) (image : List Sector) (group : ℕ) → IsReady g t layouts image group
+    → group_read g (spelled g t layouts image) group ≡ map closed_chunk (group_of t group)
 unfolding group_read
-group_is l g t lists image group r =
-    let new = spelled g t lists image in
+group_is l g t layouts image group r =
+    let new = spelled g t layouts image in
     let chunks = group_of t group in
     let f : ChunkRec → Chunk = chunk_read g new group in
-    ap (map f) (records_are l g t lists image group r)
+    ap (map f) (records_are l g t layouts image group r)
     ∙ same_lists (map f (map record_of chunks)) (map closed_chunk chunks)
     (length-map (map record_of chunks) f ∙ length-map chunks record_of ∙ sym (length-map chunks closed_chunk))
     (λ k e low.
     let within : k < length chunks = omega (arith, low, length-map (map record_of chunks) f, length-map chunks record_of) in
     get_or-map f (map record_of chunks) k (record_of no_chunk) e (omega (arith, length-map chunks record_of))
     ∙ ap f (get_or-map record_of chunks k no_chunk (record_of no_chunk) within)
-    ∙ chunk_is l g t lists image group k no_chunk r within
+    ∙ chunk_is l g t layouts image group k no_chunk r within
     ∙ sym (get_or-map closed_chunk chunks k no_chunk e within))
 
 -- ---- the table
@@ -138,10 +138,10 @@ closed_is : (t : Table) → closed t ≡ table_made t.version t.blocks (map (map
 unfolding map_inodes
 closed_is t = refl
 
-pub rows_are : (l : Lower) (g : Geometry) (t : Table) (lists : Lists) (image : List Sector) → CanSpell g t lists image → rows_of g (spelled g t lists image) ≡ closed t
+pub rows_are : (l : Lower) (g : Geometry) (t : Table) (layouts : Layouts) (image : List Sector) → CanSpell g t layouts image → rows_of g (spelled g t layouts image) ≡ closed t
 unfolding rows_of
-rows_are l g t lists image can =
-    let new = spelled g t lists image in
+rows_are l g t layouts image can =
+    let new = spelled g t layouts image in
     let f : ℕ → Group = group_read g new in
     let groups : map f (range_with_len 0 g.groups) ≡ map (map closed_chunk) t.groups =
     same_lists (map f (range_with_len 0 g.groups)) (map (map closed_chunk) t.groups)
@@ -150,7 +150,7 @@ rows_are l g t lists image can =
     let below : group < g.groups = omega (arith, low, length-map-range_with_len f 0 g.groups) in
     let within : group < length t.groups = let same = can.groups in omega arith in
     get_or-map-range_with_len f 0 g.groups group group e below (omega arith)
-    ∙ group_is l g t lists image group (ready g t lists image group can below)
+    ∙ group_is l g t layouts image group (ready g t layouts image group can below)
     ∙ sym (get_or-map (map closed_chunk) t.groups group [] e within)) in
     ap (λ (n : ℕ). table_made n g.blocks (map f (range_with_len 0 g.groups))) (can.shape.version ∙ sym can.table.version)
     ∙ ap (λ (n : ℕ). table_made t.version n (map f (range_with_len 0 g.groups))) (sym can.blocks)
@@ -180,16 +180,16 @@ read_from : (o : Option Inode) (inode : Inode) → option_map closed_inode o ≡
 read_from None inode e = absurd (none-some inode e)
 read_from (Some x) inode e = (x, refl, sym (same_Some (closed_inode x) inode e))
 
-pub inode_at_is : (l : Lower) (g : Geometry) (t : Table) (lists : Lists) (image : List Sector) (group agino : ℕ) → IsReady g t lists image group
-    → inode_at g (spelled g t lists image) group agino ≡ option_map closed_inode (inode_in (group_of t group) agino)
+pub inode_at_is : (l : Lower) (g : Geometry) (t : Table) (layouts : Layouts) (image : List Sector) (group agino : ℕ) → IsReady g t layouts image group
+    → inode_at g (spelled g t layouts image) group agino ≡ option_map closed_inode (inode_in (group_of t group) agino)
 unfolding inode_at
-inode_at_is l g t lists image group agino r =
-    ap (λ (chunks : Group). inode_in chunks agino) (group_is l g t lists image group r) ∙ closed_in (group_of t group) agino
+inode_at_is l g t layouts image group agino r =
+    ap (λ (chunks : Group). inode_in chunks agino) (group_is l g t layouts image group r) ∙ closed_in (group_of t group) agino
 
-pub is_read : (l : Lower) (g : Geometry) (t : Table) (lists : Lists) (image : List Sector) (group agino : ℕ) (inode : Inode) → IsReady g t lists image group
-    → inode_at g (spelled g t lists image) group agino ≡ Some inode → IsRead (group_of t group) agino inode
-is_read l g t lists image group agino inode r e =
-    let found = read_from (inode_in (group_of t group) agino) inode (sym (inode_at_is l g t lists image group agino r) ∙ e) in
+pub is_read : (l : Lower) (g : Geometry) (t : Table) (layouts : Layouts) (image : List Sector) (group agino : ℕ) (inode : Inode) → IsReady g t layouts image group
+    → inode_at g (spelled g t layouts image) group agino ≡ Some inode → IsRead (group_of t group) agino inode
+is_read l g t layouts image group agino inode r e =
+    let found = read_from (inode_in (group_of t group) agino) inode (sym (inode_at_is l g t layouts image group agino r) ∙ e) in
     record { held = found.0; found = found.1; same = found.2 }
 
 -- a row that is read
@@ -212,9 +212,9 @@ row_of_inode : (o : Option Inode) (row : Row) → option_and_then (λ (inode : I
 row_of_inode None row e = absurd (none-some row e)
 row_of_inode (Some x) row e = let r = row_from x.row row e in (x, r.0, refl, r.1, r.2, r.3)
 
-pub is_row_read : (l : Lower) (g : Geometry) (t : Table) (lists : Lists) (image : List Sector) (group agino : ℕ) (row : Row) → IsReady g t lists image group
-    → row_at g (spelled g t lists image) group agino ≡ Some row → IsRowRead (group_of t group) agino row
+pub is_row_read : (l : Lower) (g : Geometry) (t : Table) (layouts : Layouts) (image : List Sector) (group agino : ℕ) (row : Row) → IsReady g t layouts image group
+    → row_at g (spelled g t layouts image) group agino ≡ Some row → IsRowRead (group_of t group) agino row
 unfolding row_at
-is_row_read l g t lists image group agino row r e =
-    let found = row_of_inode (inode_in (group_of t group) agino) row (sym (ap (option_and_then (λ (inode : Inode). inode.row)) (inode_at_is l g t lists image group agino r)) ∙ e) in
+is_row_read l g t layouts image group agino row r e =
+    let found = row_of_inode (inode_in (group_of t group) agino) row (sym (ap (option_and_then (λ (inode : Inode). inode.row)) (inode_at_is l g t layouts image group agino r)) ∙ e) in
     record { inode = found.0; held = found.1; found = found.2; live = found.3; links = found.4; blocks = found.5 }

@@ -12,54 +12,54 @@ use Rattle.geometry.specs.declared.shape.Geometry.{Geometry}
 use Rattle.geometry.specs.Places.{group_sectors}
 use Rattle.life_table.specs.Table.{Table, group_of}
 use Rattle.sound_image.specs.Places.{bytes_at, bytes_from, part, sector_in}
-use Rattle.sound_image.specs.Spelling.{Lists, metadata, spelled, spelled_bytes}
+use Rattle.sound_image.specs.Spelling.{Layouts, metadata, spelled, spelled_bytes}
 
 abbrev sector_of : List ℕ → Sector
 sector_of bytes = record { bytes = bytes }
 
-pub length-spelled : (g : Geometry) (t : Table) (lists : Lists) (image : List Sector) → length (spelled g t lists image) ≡ length image
+pub length-spelled : (g : Geometry) (t : Table) (layouts : Layouts) (image : List Sector) → length (spelled g t layouts image) ≡ length image
 unfolding spelled
-length-spelled g t lists image = length-map-range_with_len (λ s. sector_of (spelled_bytes g t lists image s)) 0 (length image)
+length-spelled g t layouts image = length-map-range_with_len (λ s. sector_of (spelled_bytes g t layouts image s)) 0 (length image)
 
-pub bytes_at-spelled : (g : Geometry) (t : Table) (lists : Lists) (image : List Sector) (s : ℕ) → s < length image
-    → bytes_at (spelled g t lists image) s ≡ spelled_bytes g t lists image s
+pub bytes_at-spelled : (g : Geometry) (t : Table) (layouts : Layouts) (image : List Sector) (s : ℕ) → s < length image
+    → bytes_at (spelled g t layouts image) s ≡ spelled_bytes g t layouts image s
 unfolding spelled bytes_at
-bytes_at-spelled g t lists image s lt =
-    ap (λ (sector : Sector). sector.bytes) (get_or-map-range_with_len (λ s. sector_of (spelled_bytes g t lists image s)) 0 (length image) s s zero_sector lt (omega arith))
+bytes_at-spelled g t layouts image s lt =
+    ap (λ (sector : Sector). sector.bytes) (get_or-map-range_with_len (λ s. sector_of (spelled_bytes g t layouts image s)) 0 (length image) s s zero_sector lt (omega arith))
 
 -- behind the groups all stays
-pub behind_groups : (g : Geometry) (t : Table) (lists : Lists) (image : List Sector) (s : ℕ) → s < length image → g.groups * group_sectors g ≤ s
-    → bytes_at (spelled g t lists image) s ≡ bytes_at image s
+pub behind_groups : (g : Geometry) (t : Table) (layouts : Layouts) (image : List Sector) (s : ℕ) → s < length image → g.groups * group_sectors g ≤ s
+    → bytes_at (spelled g t layouts image) s ≡ bytes_at image s
 unfolding spelled_bytes
-behind_groups g t lists image s lt past =
-    bytes_at-spelled g t lists image s lt ∙ cond-false (ltb s (g.groups * group_sectors g)) _ _ (le-ltb s (g.groups * group_sectors g) past)
+behind_groups g t layouts image s lt past =
+    bytes_at-spelled g t layouts image s lt ∙ cond-false (ltb s (g.groups * group_sectors g)) _ _ (le-ltb s (g.groups * group_sectors g) past)
 
 -- a place of a group of the image
 in_image : (groups size group place : ℕ) → group < groups → place < size → group * size + place < groups * size
 in_image groups size group place lt low = let all : (group + 1) * size ≤ groups * size = grind arith in omega arith
 
-pub at_place : (g : Geometry) (t : Table) (lists : Lists) (image : List Sector) (group place : ℕ) → g.groups * group_sectors g ≤ length image → group < g.groups → place < group_sectors g
-    → bytes_at (spelled g t lists image) (sector_in g group place) ≡ unwrap_or (metadata g lists group (group_of t group) place) (bytes_at image (sector_in g group place))
+pub at_place : (g : Geometry) (t : Table) (layouts : Layouts) (image : List Sector) (group place : ℕ) → g.groups * group_sectors g ≤ length image → group < g.groups → place < group_sectors g
+    → bytes_at (spelled g t layouts image) (sector_in g group place) ≡ unwrap_or (metadata g layouts group (group_of t group) place) (bytes_at image (sector_in g group place))
 unfolding spelled_bytes sector_in
-at_place g t lists image group place size lt low =
+at_place g t layouts image group place size lt low =
     let within : group * group_sectors g + place < g.groups * group_sectors g = in_image g.groups (group_sectors g) group place lt low in
     let old : List ℕ = bytes_at image (group * group_sectors g + place) in
-    bytes_at-spelled g t lists image (group * group_sectors g + place) (omega arith)
+    bytes_at-spelled g t layouts image (group * group_sectors g + place) (omega arith)
     ∙ cond-true (ltb (group * group_sectors g + place) (g.groups * group_sectors g)) _ _ (lt-ltb (group * group_sectors g + place) (g.groups * group_sectors g) within)
-    ∙ ap (λ (x : ℕ). unwrap_or (metadata g lists x (group_of t x) ((group * group_sectors g + place) % group_sectors g)) old) (div-mul-add group (group_sectors g) place low)
-    ∙ ap (λ (x : ℕ). unwrap_or (metadata g lists group (group_of t group) x) old) (mod-mul-add group (group_sectors g) place low)
+    ∙ ap (λ (x : ℕ). unwrap_or (metadata g layouts x (group_of t x) ((group * group_sectors g + place) % group_sectors g)) old) (div-mul-add group (group_sectors g) place low)
+    ∙ ap (λ (x : ℕ). unwrap_or (metadata g layouts group (group_of t group) x) old) (mod-mul-add group (group_sectors g) place low)
 
 -- a place of which the format says what stands there
-pub at_metadata : (g : Geometry) (t : Table) (lists : Lists) (image : List Sector) (group place : ℕ) (bytes : List ℕ) → g.groups * group_sectors g ≤ length image → group < g.groups → place < group_sectors g
-    → metadata g lists group (group_of t group) place ≡ Some bytes → bytes_at (spelled g t lists image) (sector_in g group place) ≡ bytes
-at_metadata g t lists image group place bytes size lt low e =
-    at_place g t lists image group place size lt low ∙ ap (λ (o : Option (List ℕ)). unwrap_or o (bytes_at image (sector_in g group place))) e
+pub at_metadata : (g : Geometry) (t : Table) (layouts : Layouts) (image : List Sector) (group place : ℕ) (bytes : List ℕ) → g.groups * group_sectors g ≤ length image → group < g.groups → place < group_sectors g
+    → metadata g layouts group (group_of t group) place ≡ Some bytes → bytes_at (spelled g t layouts image) (sector_in g group place) ≡ bytes
+at_metadata g t layouts image group place bytes size lt low e =
+    at_place g t layouts image group place size lt low ∙ ap (λ (o : Option (List ℕ)). unwrap_or o (bytes_at image (sector_in g group place))) e
 
 -- one of which it does not
-pub at_rest : (g : Geometry) (t : Table) (lists : Lists) (image : List Sector) (group place : ℕ) → g.groups * group_sectors g ≤ length image → group < g.groups → place < group_sectors g
-    → metadata g lists group (group_of t group) place ≡ None → bytes_at (spelled g t lists image) (sector_in g group place) ≡ bytes_at image (sector_in g group place)
-at_rest g t lists image group place size lt low e =
-    at_place g t lists image group place size lt low ∙ ap (λ (o : Option (List ℕ)). unwrap_or o (bytes_at image (sector_in g group place))) e
+pub at_rest : (g : Geometry) (t : Table) (layouts : Layouts) (image : List Sector) (group place : ℕ) → g.groups * group_sectors g ≤ length image → group < g.groups → place < group_sectors g
+    → metadata g layouts group (group_of t group) place ≡ None → bytes_at (spelled g t layouts image) (sector_in g group place) ≡ bytes_at image (sector_in g group place)
+at_rest g t layouts image group place size lt low e =
+    at_place g t layouts image group place size lt low ∙ ap (λ (o : Option (List ℕ)). unwrap_or o (bytes_at image (sector_in g group place))) e
 
 -- sectors that hold the parts of bytes hold the bytes
 parts_whole : (f : ℕ → List ℕ) (bytes : List ℕ) (s n : ℕ) → length bytes ≡ 512 * n → ((k : ℕ) → k < n → f (s + k) ≡ part k bytes) → flat_map f (range_with_len s n) ≡ bytes

@@ -7,7 +7,7 @@ use Rattle.life_table.specs.Table.{Inode, Table, group_of, inode_in}
 use Rattle.life_table.specs.History.{closed}
 use Rattle.sound_image.specs.Places.{bytes_at, sector_in}
 use Rattle.sound_image.specs.Damage.{Rule, header, tree, core, fork, blocks, bitmap, pointers, lists, HoldsIn, IsSound}
-use Rattle.sound_image.specs.Spelling.{Lists, CanSpell, inode_sector, metadata, spelled}
+use Rattle.sound_image.specs.Spelling.{Layouts, CanSpell, inode_sector, metadata, spelled}
 use Rattle.sound_image.specs.Stands.{HasSuperblock, IsLongEnough, Stands}
 use Rattle.sound_image.proofs.Buckets.{pointers_right, lists_right}
 use Rattle.sound_image.proofs.Groups.{in_range}
@@ -18,18 +18,18 @@ use Rattle.sound_image.proofs.Right.{core_right, fork_right, blocks_right, bitma
 use Rattle.sound_image.proofs.Rows.{rows_are}
 use Rattle.sound_image.proofs.Sectors.{at_rest, length-spelled}
 
-holds_in : (l : Lower) (g : Geometry) (t : Table) (buckets : Lists) (image : List Sector) (rule : Rule) (group : ℕ) → IsReady g t buckets image group → HoldsIn g (spelled g t buckets image) rule group
-holds_in l g t buckets image header group r = header_right l g t buckets image group r
-holds_in l g t buckets image tree group r = (page_right l g t buckets image group r, counts_right l g t buckets image group r)
-holds_in l g t buckets image core group r = λ agino inode. core_right l g t buckets image group agino inode r
-holds_in l g t buckets image fork group r = λ agino row. fork_right l g t buckets image group agino row r
-holds_in l g t buckets image blocks group r = λ agino row. blocks_right l g t buckets image group agino row r
-holds_in l g t buckets image bitmap group r = λ k. bitmap_right l g t buckets image group k r
-holds_in l g t buckets image pointers group r = λ bucket. pointers_right l g t buckets image group bucket r
-holds_in l g t buckets image lists group r = λ agino row. lists_right l g t buckets image group agino row r
+holds_in : (l : Lower) (g : Geometry) (t : Table) (layouts : Layouts) (image : List Sector) (rule : Rule) (group : ℕ) → IsReady g t layouts image group → HoldsIn g (spelled g t layouts image) rule group
+holds_in l g t layouts image header group r = header_right l g t layouts image group r
+holds_in l g t layouts image tree group r = (page_right l g t layouts image group r, counts_right l g t layouts image group r)
+holds_in l g t layouts image core group r = λ agino inode. core_right l g t layouts image group agino inode r
+holds_in l g t layouts image fork group r = λ agino row. fork_right l g t layouts image group agino row r
+holds_in l g t layouts image blocks group r = λ agino row. blocks_right l g t layouts image group agino row r
+holds_in l g t layouts image bitmap group r = λ k. bitmap_right l g t layouts image group k r
+holds_in l g t layouts image pointers group r = λ bucket. pointers_right l g t layouts image group bucket r
+holds_in l g t layouts image lists group r = λ agino row. lists_right l g t layouts image group agino row r
 
-pub sound : (l : Lower) (g : Geometry) (t : Table) (buckets : Lists) (image : List Sector) → CanSpell g t buckets image → IsSound g (spelled g t buckets image)
-sound l g t buckets image can = λ rule group lt. holds_in l g t buckets image rule group (ready g t buckets image group can lt)
+pub sound : (l : Lower) (g : Geometry) (t : Table) (layouts : Layouts) (image : List Sector) → CanSpell g t layouts image → IsSound g (spelled g t layouts image)
+sound l g t layouts image can = λ rule group lt. holds_in l g t layouts image rule group (ready g t layouts image group can lt)
 
 -- sector 0 is no inode's
 no_first : (o : Option Inode) (f : Inode → List ℕ) → ((x : Inode) → o ≡ Some x → ⊥) → option_map f o ≡ None
@@ -40,21 +40,21 @@ first_place : (g : Geometry) → sector_in g 0 0 ≡ 0
 unfolding sector_in
 first_place g = omega arith
 
-pub first_stays : (g : Geometry) (t : Table) (buckets : Lists) (image : List Sector) → CanSpell g t buckets image → bytes_at (spelled g t buckets image) 0 ≡ bytes_at image 0
-first_stays g t buckets image can =
+pub first_stays : (g : Geometry) (t : Table) (layouts : Layouts) (image : List Sector) → CanSpell g t layouts image → bytes_at (spelled g t layouts image) 0 ≡ bytes_at image 0
+first_stays g t layouts image can =
     let some = can.shape.groups in
     let few = can.shape.blocks in
-    let r = ready g t buckets image 0 can (omega arith) in
-    let none : metadata g buckets 0 (group_of t 0) 0 ≡ None =
-    at_first g buckets 0 (group_of t 0)
-    ∙ no_first (inode_in (group_of t 0) 0) (inode_sector g buckets 0 0) (λ x found. omega (arith, in_range g.blocks (group_of t 0) 0 x r.data_of found)) in
-    subst (λ (s : ℕ). bytes_at (spelled g t buckets image) s ≡ bytes_at image s) (first_place g) (at_rest g t buckets image 0 0 can.size (omega arith) (omega arith) none)
+    let r = ready g t layouts image 0 can (omega arith) in
+    let none : metadata g layouts 0 (group_of t 0) 0 ≡ None =
+    at_first g layouts 0 (group_of t 0) r.page_low
+    ∙ no_first (inode_in (group_of t 0) 0) (inode_sector g layouts 0 0) (λ x found. omega (arith, in_range g.blocks (group_of t 0) 0 x r.data_of found)) in
+    subst (λ (s : ℕ). bytes_at (spelled g t layouts image) s ≡ bytes_at image s) (first_place g) (at_rest g t layouts image 0 0 can.size (omega arith) (omega arith) none)
 
-pub stands : (l : Lower) (g : Geometry) (t : Table) (buckets : Lists) (image : List Sector) → CanSpell g t buckets image → HasSuperblock g image → IsLongEnough g image
-    → Stands g (spelled g t buckets image) (closed t)
-stands l g t buckets image can super long = record {
-  superblock = record { shape = super.shape; spelled = first_stays g t buckets image can ∙ super.spelled };
-  size = omega (arith, long, length-spelled g t buckets image);
-  sound = sound l g t buckets image can;
-  rows = rows_are l g t buckets image can;
+pub stands : (l : Lower) (g : Geometry) (t : Table) (layouts : Layouts) (image : List Sector) → CanSpell g t layouts image → HasSuperblock g image → IsLongEnough g image
+    → Stands g (spelled g t layouts image) (closed t)
+stands l g t layouts image can super long = record {
+  superblock = record { shape = super.shape; spelled = first_stays g t layouts image can ∙ super.spelled };
+  size = omega (arith, long, length-spelled g t layouts image);
+  sound = sound l g t layouts image can;
+  rows = rows_are l g t layouts image can;
 }

@@ -2,7 +2,7 @@
 use Rattle.std.specs.Prelude.{◌≡◌, ◌==◌, ◌+◌, ◌-◌, ◌*◌, ◌/◌, ◌%◌, ◌<◌, ◌≤◌, ◌&&◌, ℕ, Bool, true, false, List, [], ◌∷◌, Option, None, Some, is_none, nat_le, nat_lt, if◌then◌else◌, length, map, count_by, slice_index_or, sum_by, unwrap_or}
 use Rattle.std.specs.List.{range_with_len}
 use Rattle.std.specs.Option.{option_map}
-use Rattle.life_limits.specs.declared.TheConstants.{BLOCK_BYTES, BLOCK_SECTORS, BUCKETS, CHUNK_INODES, FIRST_PAGE_BLOCK, NO_INODE}
+use Rattle.life_limits.specs.declared.TheConstants.{BLOCK_BYTES, BLOCK_SECTORS, BUCKETS, CHUNK_INODES, FIRST_PAGE_BLOCK, LAST_PAGE_BLOCK, NO_INODE}
 use Rattle.life_bytes.specs.declared.sector.Sector.{Sector}
 use Rattle.geometry.specs.declared.shape.Geometry.{Geometry}
 use Rattle.geometry.specs.Places.{group_sectors}
@@ -24,12 +24,25 @@ use Rattle.life_table.specs.WellFormed.{IsTable}
 use Rattle.sound_image.specs.Places.{bytes_at, part, sector_in, number_in, header_place, bitmap_place, bitmap_sectors}
 use Rattle.sound_image.specs.Rules.{free_set}
 
--- the lists of the unlinked buckets: for each group 64 lists of numbers of the group, each with its head first
-abbrev pub Lists : Type 0
-Lists = List (List (List ℕ))
+-- What the sectors of a group tell beside its inodes: the block of its page, and its 64 unlinked buckets, each a list of numbers of the group with its
+-- head first.
+pub record Layout : Type 0 where
+  pub page : ℕ
+  pub buckets : List (List ℕ)
 
-unfoldable pub list_of : Lists → ℕ → ℕ → List ℕ
-list_of lists group bucket = slice_index_or (slice_index_or lists group []) bucket []
+-- the layouts of the groups
+abbrev pub Layouts : Type 0
+Layouts = List Layout
+
+-- the layout of a group; one that has none has the first block of pages and no inode in a bucket
+unfoldable pub layout_of : Layouts → ℕ → Layout
+layout_of layouts group = slice_index_or layouts group (record { page = FIRST_PAGE_BLOCK; buckets = [] })
+
+unfoldable pub page_of : Layouts → ℕ → ℕ
+page_of layouts group = (layout_of layouts group).page
+
+unfoldable pub list_of : Layouts → ℕ → ℕ → List ℕ
+list_of layouts group bucket = slice_index_or (layout_of layouts group).buckets bucket []
 
 -- the head of a list, and what follows a member of it: the end where nothing does, and for one that is no member
 unfoldable pub head_of : List ℕ → ℕ
@@ -49,12 +62,12 @@ abbrev pub is_unlinked : Option Inode → Bool
 is_unlinked None = false
 is_unlinked (Some inode) = is_unlinked_row inode.row
 
--- The bucket lists of a table's rows without links: a number stands once in the list of its bucket, which is the number modulo 64, where its inode is
--- in use and has no links, and in no other list.
-abbrev pub AreLists : Table → Lists → Type 0
-AreLists t lists =
-    (group bucket agino : ℕ) → group < length t.groups → bucket < BUCKETS
-    → times agino (list_of lists group bucket) ≡ (if (agino % BUCKETS == bucket) && is_unlinked (inode_in (group_of t group) agino) then 1 else 0)
+-- Layouts of a table: the page of each group is in a block of pages. A number stands once in the list of its bucket, which is the number modulo 64, where
+-- its inode is in use and has no links, and in no other list.
+pub record AreLayouts (t : Table) (layouts : Layouts) : Type 0 where
+  pub pages : (group : ℕ) → group < length t.groups → (FIRST_PAGE_BLOCK ≤ page_of layouts group) × (page_of layouts group ≤ LAST_PAGE_BLOCK)
+  pub buckets : (group bucket agino : ℕ) → group < length t.groups → bucket < BUCKETS
+      → times agino (list_of layouts group bucket) ≡ (if (agino % BUCKETS == bucket) && is_unlinked (inode_in (group_of t group) agino) then 1 else 0)
 
 -- the mask of a chunk: bit i is set where inode i is not in use
 unfoldable pub mask_of : List Inode → ℕ
@@ -68,17 +81,17 @@ free_count inodes = count_by (λ (inode : Inode). is_none inode.row) inodes
 unfoldable pub record_of : Chunk → ChunkRec
 record_of chunk = record { start = chunk.start; free = free_count chunk.inodes; mask = mask_of chunk.inodes }
 
--- the header of a group with these chunks and bucket lists; its one page is the first that it may have
-unfoldable pub header_for : Geometry → ℕ → Group → Lists → Agi
-header_for g group chunks lists =
+-- the header of a group with these chunks and layouts
+unfoldable pub header_for : Geometry → ℕ → Group → Layouts → Agi
+header_for g group chunks layouts =
     record {
       group = group;
       blocks = g.blocks;
       count = CHUNK_INODES * length chunks;
-      root = FIRST_PAGE_BLOCK;
+      root = page_of layouts group;
       level = 1;
       free = sum_by (λ (chunk : Chunk). free_count chunk.inodes) chunks;
-      heads = map (λ bucket. head_of (list_of lists group bucket)) (range_with_len 0 BUCKETS);
+      heads = map (λ bucket. head_of (list_of layouts group bucket)) (range_with_len 0 BUCKETS);
       uuid = g.uuid;
     }
 
@@ -102,42 +115,43 @@ fork_for group None = no_fork
 fork_for group (Some row) = fork group (runs row.blocks)
 
 -- its sector
-unfoldable pub inode_sector : Geometry → Lists → ℕ → ℕ → Inode → List ℕ
-inode_sector g lists group agino inode =
-    core_spelling (core_for inode.generation inode.row (next_in (list_of lists group (agino % BUCKETS)) agino)) (number_in group agino) g.uuid (fork_for group inode.row)
+unfoldable pub inode_sector : Geometry → Layouts → ℕ → ℕ → Inode → List ℕ
+inode_sector g layouts group agino inode =
+    core_spelling (core_for inode.generation inode.row (next_in (list_of layouts group (agino % BUCKETS)) agino)) (number_in group agino) g.uuid (fork_for group inode.row)
 
 -- where the page of a group stands in it
-abbrev pub page_place : ℕ
-page_place = BLOCK_SECTORS * FIRST_PAGE_BLOCK
+unfoldable pub page_place : Layouts → ℕ → ℕ
+page_place layouts group = BLOCK_SECTORS * page_of layouts group
 
 -- its page
-unfoldable pub page_bytes : Geometry → ℕ → Group → List ℕ
-page_bytes g group chunks = page_spelling (map record_of chunks) group (sector_in g group page_place) g.uuid
+unfoldable pub page_bytes : Geometry → Layouts → ℕ → Group → List ℕ
+page_bytes g layouts group chunks = page_spelling (map record_of chunks) group (sector_in g group (page_place layouts group)) g.uuid
 
--- The bytes that stand at a place of a group with these chunks and bucket lists, where the format says what stands there.
-unfoldable pub metadata : Geometry → Lists → ℕ → Group → ℕ → Option (List ℕ)
-metadata g lists group chunks place =
-    if place == header_place then Some (header_spelling (header_for g group chunks lists))
+-- The bytes that stand at a place of a group with these chunks and layouts, where the format says what stands there.
+unfoldable pub metadata : Geometry → Layouts → ℕ → Group → ℕ → Option (List ℕ)
+metadata g layouts group chunks place =
+    if place == header_place then Some (header_spelling (header_for g group chunks layouts))
     else if nat_le bitmap_place place && nat_lt place (bitmap_place + bitmap_sectors) then Some (part (place - bitmap_place) (bitmap (free_set g.blocks chunks)))
-    else if nat_le page_place place && nat_lt place (page_place + BLOCK_SECTORS) then Some (part (place - page_place) (page_bytes g group chunks))
-    else option_map (inode_sector g lists group place) (inode_in chunks place)
+    else if nat_le (page_place layouts group) place && nat_lt place (page_place layouts group + BLOCK_SECTORS)
+    then Some (part (place - page_place layouts group) (page_bytes g layouts group chunks))
+    else option_map (inode_sector g layouts group place) (inode_in chunks place)
 
 -- the bytes of a sector of the image: what the format says of its place in its group, else what stood there before
-unfoldable pub spelled_bytes : Geometry → Table → Lists → List Sector → ℕ → List ℕ
-spelled_bytes g t lists image s =
+unfoldable pub spelled_bytes : Geometry → Table → Layouts → List Sector → ℕ → List ℕ
+spelled_bytes g t layouts image s =
     if nat_lt s (g.groups * group_sectors g)
-    then unwrap_or (metadata g lists (s / group_sectors g) (group_of t (s / group_sectors g)) (s % group_sectors g)) (bytes_at image s)
+    then unwrap_or (metadata g layouts (s / group_sectors g) (group_of t (s / group_sectors g)) (s % group_sectors g)) (bytes_at image s)
     else bytes_at image s
 
--- the sectors with each metadata sector of the groups as it is spelled for a table and bucket lists; all others stay
-unfoldable pub spelled : Geometry → Table → Lists → List Sector → List Sector
-spelled g t lists image = map (λ s. record { bytes = spelled_bytes g t lists image s }) (range_with_len 0 (length image))
+-- the sectors with each metadata sector of the groups as it is spelled for a table and layouts; all others stay
+unfoldable pub spelled : Geometry → Table → Layouts → List Sector → List Sector
+spelled g t layouts image = map (λ s. record { bytes = spelled_bytes g t layouts image s }) (range_with_len 0 (length image))
 
--- the table is that of such an image: it is well formed and of the image's shape, the lists are its bucket lists, and the image holds the groups
-pub record CanSpell (g : Geometry) (t : Table) (lists : Lists) (image : List Sector) : Type 0 where
+-- the table is that of such an image: it is well formed and of the image's shape, the layouts are layouts of it, and the image holds the groups
+pub record CanSpell (g : Geometry) (t : Table) (layouts : Layouts) (image : List Sector) : Type 0 where
   pub shape : IsGeometry g
   pub table : IsTable t
   pub groups : length t.groups ≡ g.groups
   pub blocks : t.blocks ≡ g.blocks
-  pub buckets : AreLists t lists
+  pub layouts_of : AreLayouts t layouts
   pub size : g.groups * group_sectors g ≤ length image

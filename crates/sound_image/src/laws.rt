@@ -9,7 +9,7 @@ ghost use Rattle.life_table.specs.History.{closed};
 ghost use Rattle.sound_image.specs.Places.{bytes_at, sector_in};
 ghost use Rattle.sound_image.specs.Reading.{rows_of};
 ghost use Rattle.sound_image.specs.Damage.{Rule, FirstDamage, IsSound};
-ghost use Rattle.sound_image.specs.Spelling.{Lists, CanSpell, metadata, spelled};
+ghost use Rattle.sound_image.specs.Spelling.{Layouts, CanSpell, metadata, spelled};
 ghost use Rattle.sound_image.specs.Stands.{HasSuperblock, IsLongEnough, Stands};
 
 use ag_header::spelled_headers_are_read;
@@ -18,13 +18,13 @@ use free_map::numbers_hold_their_bits;
 use inobt_leaf::spelled_pages_are_read;
 use inode_core::spelled_cores_are_read;
 
-/// A law: what spells a well-formed table with the bucket lists of its rows without links is sound, and the rows, chunks and generations read from
+/// A law: what spells a well-formed table with the bucket layouts of its rows without links is sound, and the rows, chunks and generations read from
 /// it are the table's, with no opens. Where the sectors before had the superblock and were enough, it stands for that table.
 pub fn spelled_images_are_sound()
-    ensures sound { (g : Geometry) (t : Table) (lists : Lists) (image : List Sector) → CanSpell g t lists image → IsSound g (spelled g t lists image) }
-    ensures rows { (g : Geometry) (t : Table) (lists : Lists) (image : List Sector) → CanSpell g t lists image → rows_of g (spelled g t lists image) ≡ closed t }
-    ensures stands { (g : Geometry) (t : Table) (lists : Lists) (image : List Sector) → CanSpell g t lists image → HasSuperblock g image → IsLongEnough g image
-        → Stands g (spelled g t lists image) (closed t) }
+    ensures sound { (g : Geometry) (t : Table) (layouts : Layouts) (image : List Sector) → CanSpell g t layouts image → IsSound g (spelled g t layouts image) }
+    ensures rows { (g : Geometry) (t : Table) (layouts : Layouts) (image : List Sector) → CanSpell g t layouts image → rows_of g (spelled g t layouts image) ≡ closed t }
+    ensures stands { (g : Geometry) (t : Table) (layouts : Layouts) (image : List Sector) → CanSpell g t layouts image → HasSuperblock g image → IsLongEnough g image
+        → Stands g (spelled g t layouts image) (closed t) }
 {
     spelled_cores_are_read();
     spelled_headers_are_read();
@@ -36,13 +36,13 @@ pub fn spelled_images_are_sound()
 /// A law: spelling a table leaves the number of sectors, the superblock, all sectors behind the groups, and all sectors of the groups of which the
 /// format does not say what stands there.
 pub fn spelling_leaves_the_rest()
-    ensures same_length { (g : Geometry) (t : Table) (lists : Lists) (image : List Sector) → length (spelled g t lists image) ≡ length image }
-    ensures superblock { (g : Geometry) (t : Table) (lists : Lists) (image : List Sector) → CanSpell g t lists image → bytes_at (spelled g t lists image) 0 ≡ bytes_at image 0 }
-    ensures behind { (g : Geometry) (t : Table) (lists : Lists) (image : List Sector) (s : ℕ) → s < length image → g.groups * group_sectors g ≤ s
-        → bytes_at (spelled g t lists image) s ≡ bytes_at image s }
-    ensures others { (g : Geometry) (t : Table) (lists : Lists) (image : List Sector) (group place : ℕ) → g.groups * group_sectors g ≤ length image → group < g.groups
-        → place < group_sectors g → metadata g lists group (group_of t group) place ≡ None
-        → bytes_at (spelled g t lists image) (sector_in g group place) ≡ bytes_at image (sector_in g group place) }
+    ensures same_length { (g : Geometry) (t : Table) (layouts : Layouts) (image : List Sector) → length (spelled g t layouts image) ≡ length image }
+    ensures superblock { (g : Geometry) (t : Table) (layouts : Layouts) (image : List Sector) → CanSpell g t layouts image → bytes_at (spelled g t layouts image) 0 ≡ bytes_at image 0 }
+    ensures behind { (g : Geometry) (t : Table) (layouts : Layouts) (image : List Sector) (s : ℕ) → s < length image → g.groups * group_sectors g ≤ s
+        → bytes_at (spelled g t layouts image) s ≡ bytes_at image s }
+    ensures others { (g : Geometry) (t : Table) (layouts : Layouts) (image : List Sector) (group place : ℕ) → g.groups * group_sectors g ≤ length image → group < g.groups
+        → place < group_sectors g → metadata g layouts group (group_of t group) place ≡ None
+        → bytes_at (spelled g t layouts image) (sector_in g group place) ≡ bytes_at image (sector_in g group place) }
 {}
 
 /// A law: an image has at most one first damage, and none where it is sound.
