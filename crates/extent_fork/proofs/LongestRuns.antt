@@ -1,5 +1,5 @@
 -- The runs of a list of blocks.
-use Rattle.std.proofs.Common.{◌≡◌, ◌≢◌, ◌≤◌, ◌<◌, ◌+◌, ◌*◌, ℕ, zero, suc, Bool, true, false, cond, eqb, List, [], ◌∷◌, ◌++◌, length, drop, get_or, refl, sym, ap, subst, ◌∙◌, arith, append_assoc, eq-eqb, add-one, inl, inr, ◌⊎◌}
+use Rattle.std.proofs.Common.{◌≡◌, ◌≢◌, ◌≤◌, ◌<◌, ◌+◌, ◌-◌, ◌*◌, ℕ, zero, suc, Bool, true, false, cond, eqb, List, [], ◌∷◌, ◌++◌, length, drop, get_or, refl, sym, ap, subst, ◌∙◌, arith, append_assoc, eq-eqb, add-one, inl, inr, ◌⊎◌}
 use Rattle.std.specs.List.{AllByRecursion, flat_map, range_with_len}
 use Rattle.std.proofs.lemmas.Bool.Decides.{eqb_tells}
 use Rattle.std.proofs.lemmas.List.{drop_more, drop_all}
@@ -128,6 +128,56 @@ for_fork blocks found e below above =
         let one = small 0 0 (omega arith) in
         data_runs (single block) blocks (record { count = omega arith; start = one.0; end = omega (arith, one.1) }) (λ k d lt. small (suc k) d (omega arith))
 
+-- ---- the runs of the blocks of runs
+
+abbrev extent : ℕ → ℕ → Extent
+extent start count = record { start = start; count = count }
+
+-- a run goes on over the blocks behind it
+grows : (n start count : ℕ) (rest : List ℕ) → runs_from (extent start count) (range_with_len (start + count) n ++ rest) ≡ runs_from (extent start (count + n)) rest
+grows zero start count rest = let e : count ≡ count + 0 = omega arith in ap (λ (c : ℕ). runs_from (extent start c) rest) e
+grows (suc n) start count rest =
+    let next : start + count + 1 ≡ start + (count + 1) = omega arith in
+    let more : count + 1 + n ≡ count + suc n = omega arith in
+    let others : List ℕ = range_with_len (start + count + 1) n ++ rest in
+    chosen (eqb (start + count) (start + count)) (runs_from (extent start (count + 1)) others) (extent start count ∷ runs_from (single (start + count)) others) (eq-eqb (start + count) (start + count) refl)
+    ∙ ap (λ (from : ℕ). runs_from (extent start (count + 1)) (range_with_len from n ++ rest)) next
+    ∙ grows n start (count + 1) rest
+    ∙ ap (λ (c : ℕ). runs_from (extent start c) rest) more
+
+-- the blocks of a run that is not empty: the first, and the others
+first_block : (run : Extent) (m : ℕ) → run.count ≡ suc m → blocks_of run ≡ run.start ∷ range_with_len (run.start + 1) m
+first_block run m e = ap (range_with_len run.start) e
+
+again_from : (run : Extent) (m : ℕ) (rest : List ℕ) → run.count ≡ suc m → runs_from (single run.start) (range_with_len (run.start + 1) m ++ rest) ≡ runs_from run rest
+again_from run m rest e =
+    let c : 1 + m ≡ run.count = omega arith in
+    grows m run.start 1 rest ∙ ap (λ (c : ℕ). runs_from (extent run.start c) rest) c
+
+runs_again : (run : Extent) (list : List Extent) → AllByRecursion (λ one. 1 ≤ one.count) list → AreApart (run ∷ list) → runs_from run (flat_map blocks_of list) ≡ run ∷ list
+runs_again run [] counts apart = refl
+runs_again run (next ∷ list) counts apart =
+    let m : ℕ = next.count - 1 in
+    let e : next.count ≡ suc m = let some = counts.0 in omega arith in
+    let rest : List ℕ = flat_map blocks_of list in
+    let others : List ℕ = range_with_len (next.start + 1) m ++ rest in
+    ap (runs_from run) (flat_map-cons blocks_of next list ∙ ap (λ (l : List ℕ). l ++ rest) (first_block next m e))
+    ∙ left_out (eqb next.start (end_of run)) (runs_from (grown run) others) (run ∷ runs_from (single next.start) others) (ne-eqb next.start (end_of run) apart.0)
+    ∙ ap (λ (l : List Extent). run ∷ l) (again_from next m rest e ∙ runs_again next list counts.1 apart.1)
+
+counted : (list : List Extent) → AllByRecursion IsRun list → AllByRecursion (λ one. 1 ≤ one.count) list
+counted [] all = tt
+counted (run ∷ list) all = (all.0.count, counted list all.1)
+
+runs_of_blocks : (list : List Extent) → AreRuns list → runs (flat_map blocks_of list) ≡ list
+runs_of_blocks [] are = refl
+runs_of_blocks (run ∷ list) are =
+    let m : ℕ = run.count - 1 in
+    let e : run.count ≡ suc m = let some = are.each.0.count in omega arith in
+    let rest : List ℕ = flat_map blocks_of list in
+    ap runs (flat_map-cons blocks_of run list ∙ ap (λ (l : List ℕ). l ++ rest) (first_block run m e))
+    ∙ again_from run m rest e ∙ runs_again run list (counted list are.each.1) are.apart
+
 -- ---- the law
 
 pub forks_are_read : ForksAreRead
@@ -138,4 +188,5 @@ forks_are_read = record {
   long = length-fork;
   for_blocks = λ blocks all. for_fork blocks (runs blocks) refl (λ k d lt. (all k d lt).1) (λ k d lt. (all k d lt).0);
   blocks = λ blocks. (longest blocks (runs blocks) refl).all;
+  runs = runs_of_blocks;
 }

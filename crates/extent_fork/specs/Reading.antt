@@ -24,9 +24,10 @@ abbrev pub IsDataBlock : ℕ → Type 0
 IsDataBlock block = (FIRST_DATA_BLOCK ≤ block) × (block < MAX_BLOCKS)
 
 -- What is spelled is read, so no fork spells two lists of runs; the fork of few runs has its 336 bytes; and each list of data blocks
--- has runs that a fork may have, whose blocks are the list.
+-- has runs that a fork may have, whose blocks are the list. The runs of a fork are the runs of their blocks.
 pub record ForksAreRead : Type 0 where
   pub read : (bytes : List ℕ) (count group : ℕ) (runs : List Extent) → group < MAX_GROUPS → count ≤ MAX_EXTENTS → HasFork bytes count group runs → runs_in count bytes ≡ runs
   pub long : (group : ℕ) (runs : List Extent) → length runs ≤ MAX_EXTENTS → length (fork group runs) ≡ 336
   pub for_blocks : (blocks : List ℕ) → All IsDataBlock blocks → AreRuns (runs blocks)
   pub blocks : (blocks : List ℕ) → flat_map blocks_of (runs blocks) ≡ blocks
+  pub runs : (list : List Extent) → AreRuns list → runs (flat_map blocks_of list) ≡ list
