@@ -68,12 +68,12 @@ differ (m ∷ members) j zero once lt within = absurd (omega arith)
 differ (m ∷ members) zero (suc k) once lt within = later_differs m members k NO_INODE once (omega arith)
 differ (m ∷ members) (suc j) (suc k) once lt within = differ members j k (rest_once m members once) (omega arith) (omega arith)
 
-record Place (members : List ℕ) (a : ℕ) : Type 0 where
-  index : ℕ
-  within : index < length members
-  here : get_or members index NO_INODE ≡ a
+pub record Place (members : List ℕ) (a : ℕ) : Type 0 where
+  pub index : ℕ
+  pub within : index < length members
+  pub here : get_or members index NO_INODE ≡ a
 
-place_of : (members : List ℕ) (a : ℕ) → 1 ≤ times a members → Place members a
+pub place_of : (members : List ℕ) (a : ℕ) → 1 ≤ times a members → Place members a
 place_of [] a some = absurd (omega (arith, times-nil a))
 place_of (m ∷ members) a some =
     elim (cases_eq m a) [

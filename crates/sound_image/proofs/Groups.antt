@@ -36,13 +36,13 @@ times-range b s (suc n) low high =
     ]
 
 -- the blocks of chunks, and the blocks of rows
-used_first : (b : ℕ) (c : Chunk) (cs : Group) → times b (used (c ∷ cs)) ≡ (times b (chunk_blocks c) + times b (inode_blocks c.inodes)) + times b (used cs)
+pub used_first : (b : ℕ) (c : Chunk) (cs : Group) → times b (used (c ∷ cs)) ≡ (times b (chunk_blocks c) + times b (inode_blocks c.inodes)) + times b (used cs)
 unfolding used
 used_first b c cs =
     times-append b (chunk_blocks c ++ inode_blocks c.inodes) (flat_map (λ chunk. chunk_blocks chunk ++ inode_blocks chunk.inodes) cs)
     ∙ ap (λ (n : ℕ). n + times b (flat_map (λ chunk. chunk_blocks chunk ++ inode_blocks chunk.inodes) cs)) (times-append b (chunk_blocks c) (inode_blocks c.inodes))
 
-inode_first : (b : ℕ) (x : Inode) (xs : List Inode) → times b (inode_blocks (x ∷ xs)) ≡ times b (row_blocks x.row) + times b (inode_blocks xs)
+pub inode_first : (b : ℕ) (x : Inode) (xs : List Inode) → times b (inode_blocks (x ∷ xs)) ≡ times b (row_blocks x.row) + times b (inode_blocks xs)
 unfolding inode_blocks
 inode_first b x xs = times-append b (row_blocks x.row) (flat_map (λ inode. row_blocks inode.row) xs)
 
@@ -78,7 +78,7 @@ inode_cases c cs agino inode e =
       | inr other ↦ inr (sym (cond-false (eqb c.start (start_of agino)) (slice_get c.inodes (agino % 64)) (inode_in cs agino) other) ∙ e)
     ]
 
-no_inode : (agino : ℕ) (inode : Inode) → inode_in [] agino ≡ Some inode → ⊥
+pub no_inode : (agino : ℕ) (inode : Inode) → inode_in [] agino ≡ Some inode → ⊥
 unfolding inode_in
 no_inode agino inode e = none-some inode e
 

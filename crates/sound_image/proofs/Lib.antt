@@ -10,3 +10,6 @@ pub mod Rows
 pub mod Right
 pub mod Buckets
 pub mod Whole
+pub mod Found
+pub mod Tables
+pub mod NoOpens

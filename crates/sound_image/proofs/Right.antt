@@ -72,7 +72,7 @@ same_blocks : (c : Chunk) → chunk_blocks (closed_chunk c) ≡ chunk_blocks c
 unfolding chunk_blocks
 same_blocks c = refl
 
-none_of : (b : ℕ) (o : Option Row) → 1 ≤ times b (row_blocks o) → (row : Row) × (o ≡ Some row)
+pub none_of : (b : ℕ) (o : Option Row) → 1 ≤ times b (row_blocks o) → (row : Row) × (o ≡ Some row)
 none_of b None some = absurd (omega (arith, times-nil b))
 none_of b (Some row) some = (row, refl)
 

@@ -26,19 +26,27 @@ use Rattle.sound_image.proofs.Ready.{Lower, IsReady, ready}
 
 -- ---- the inode of a number of a chunk
 
-in_chunk : (group : Group) (k i : ℕ) (d : Chunk) → Ascends group → AllByRecursion IsChunk group → k < length group → i < 64
+-- a chunk starts at a multiple of 64
+abbrev pub IsAligned : Chunk → Type 0
+IsAligned c = c.start % 64 ≡ 0
+
+aligned : (group : Group) → AllByRecursion IsChunk group → AllByRecursion IsAligned group
+aligned [] all = tt
+aligned (c ∷ cs) all = (all.0.start, aligned cs all.1)
+
+pub in_chunk : (group : Group) (k i : ℕ) (d : Chunk) → Ascends group → AllByRecursion IsAligned group → k < length group → i < 64
     → inode_in group ((get_or group k d).start + i) ≡ slice_get (get_or group k d).inodes i
 unfolding inode_in
 in_chunk [] k i d up all lt low = absurd (omega arith)
 in_chunk (c ∷ cs) zero i d up all lt low =
-    let aligned = all.0.start in
+    let even = all.0 in
     let start : c.start ≡ start_of (c.start + i) = omega arith in
     let rest : (c.start + i) % 64 ≡ i = omega arith in
     cond-true (eqb c.start (start_of (c.start + i))) _ _ (eq-eqb c.start (start_of (c.start + i)) start) ∙ ap (slice_get c.inodes) rest
 in_chunk (c ∷ cs) (suc k) i d up all lt low =
     let a : ℕ = (get_or cs k d).start + i in
     let above = below_later c.start cs k d up.0 (omega arith) in
-    let aligned = (All-from_recursion IsChunk cs all.1 k d (omega arith)).start in
+    let even = All-from_recursion IsAligned cs all.1 k d (omega arith) in
     cond-false (eqb c.start (start_of a)) _ _ (ne_eqb c.start (start_of a) (λ e. omega arith)) ∙ in_chunk cs k i d up.1 all.1 (omega arith) low
 
 -- ---- one inode
@@ -46,7 +54,7 @@ in_chunk (c ∷ cs) (suc k) i d up all lt low =
 abbrev made : ℕ → Option Row → Inode
 made generation row = record { generation = generation; row = row }
 
-abbrev row_made : ℕ → List ℕ → Row
+abbrev pub row_made : ℕ → List ℕ → Row
 row_made links blocks = record { links = links; blocks = blocks; opens = 0 }
 
 generation_for : (generation next : ℕ) (o : Option Row) → (core_for generation o next).generation ≡ generation
@@ -105,7 +113,7 @@ chunk_is l g t layouts image group k d r lt =
     let within : i < length c.inodes = omega (arith, is.whole) in
     let x : Inode = get_or c.inodes i no_inode in
     let found : inode_in (group_of t group) (c.start + i) ≡ Some x =
-    in_chunk (group_of t group) k i d r.is_group.ascends r.is_group.chunks lt below ∙ slice_get-get_or c.inodes i no_inode within in
+    in_chunk (group_of t group) k i d r.is_group.ascends (aligned (group_of t group) r.is_group.chunks) lt below ∙ slice_get-get_or c.inodes i no_inode within in
     get_or-map-range_with_len f 0 64 i i e below (omega arith)
     ∙ inode_is l g t layouts image group c i x r found (mask_bit l c.inodes i no_inode within)
     ∙ sym (get_or-map closed_inode c.inodes i no_inode e within)))

@@ -4,8 +4,10 @@ ghost use Rattle.std.specs.Prelude.{◌≡◌, ◌≤◌, ◌<◌, ◌*◌, ◌/
 ghost use Rattle.life_bytes.specs.declared.sector.Sector.{Sector};
 ghost use Rattle.geometry.specs.declared.shape.Geometry.{Geometry};
 ghost use Rattle.geometry.specs.Places.{group_sectors};
+ghost use Rattle.geometry.specs.Shape.{IsGeometry};
 ghost use Rattle.life_table.specs.Table.{Table, group_of};
 ghost use Rattle.life_table.specs.History.{closed};
+ghost use Rattle.life_table.specs.WellFormed.{IsTable};
 ghost use Rattle.sound_image.specs.Places.{bytes_at, sector_in};
 ghost use Rattle.sound_image.specs.Reading.{rows_of};
 ghost use Rattle.sound_image.specs.Damage.{Rule, FirstDamage, IsSound};
@@ -15,6 +17,7 @@ ghost use Rattle.sound_image.specs.Stands.{HasSuperblock, IsLongEnough, Stands};
 use ag_header::spelled_headers_are_read;
 use extent_fork::spelled_forks_are_read;
 use free_map::numbers_hold_their_bits;
+use geometry::superblocks_tell_geometries;
 use inobt_leaf::spelled_pages_are_read;
 use inode_core::spelled_cores_are_read;
 
@@ -50,3 +53,22 @@ pub fn one_first_damage()
     ensures one { (g : Geometry) (image : List Sector) (a b : Rule) (s t : ℕ) → FirstDamage g image a s → FirstDamage g image b t → (a ≡ b) × (s ≡ t) }
     ensures none { (g : Geometry) (image : List Sector) (a : Rule) (s : ℕ) → IsSound g image → ¬ FirstDamage g image a s }
 {}
+
+/// A law: the table that a sound image has is well formed, and nobody holds an inode of it.
+pub fn sound_tables_are_well_formed()
+    ensures well_formed { (g : Geometry) (image : List Sector) → IsGeometry g → IsSound g image → IsTable (rows_of g image) }
+    ensures no_opens { (g : Geometry) (image : List Sector) → closed (rows_of g image) ≡ rows_of g image }
+{
+    spelled_cores_are_read();
+    spelled_headers_are_read();
+    spelled_pages_are_read();
+    spelled_forks_are_read();
+    numbers_hold_their_bits();
+}
+
+/// A law: an image stands for one table, with one geometry.
+pub fn images_stand_for_one_table()
+    ensures { (a b : Geometry) (image : List Sector) (t u : Table) → Stands a image t → Stands b image u → (a ≡ b) × (t ≡ u) }
+{
+    superblocks_tell_geometries();
+}

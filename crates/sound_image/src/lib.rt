@@ -3,4 +3,7 @@
 
 mod laws;
 
-pub use laws::{one_first_damage, spelled_images_are_sound, spelling_leaves_the_rest};
+pub use laws::{
+    images_stand_for_one_table, one_first_damage, sound_tables_are_well_formed,
+    spelled_images_are_sound, spelling_leaves_the_rest,
+};
