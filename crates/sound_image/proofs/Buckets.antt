@@ -24,10 +24,10 @@ use Rattle.sound_image.proofs.Rows.{is_row_read, inode_at_is}
 
 -- ---- layouts in which nothing stands twice
 
-abbrev IsOnce : List ℕ → Type 0
+abbrev pub IsOnce : List ℕ → Type 0
 IsOnce members = (m : ℕ) → times m members ≤ 1
 
-head_at : (members : List ℕ) → head_of members ≡ get_or members 0 NO_INODE
+pub head_at : (members : List ℕ) → head_of members ≡ get_or members 0 NO_INODE
 unfolding head_of
 head_at [] = refl
 head_at (m ∷ members) = refl
@@ -44,7 +44,7 @@ rest_once m members once n = omega (arith, once n, times_later n m members)
 later_differs : (m : ℕ) (members : List ℕ) (k d : ℕ) → IsOnce (m ∷ members) → k < length members → m ≢ get_or members k d
 later_differs m members k d once lt e = omega (arith, not_again m members once, subst (λ (n : ℕ). 1 ≤ times n members) (sym e) (times_get members k d lt))
 
-next_at : (members : List ℕ) (n : ℕ) → IsOnce members → n < length members → next_in members (get_or members n NO_INODE) ≡ get_or members (suc n) NO_INODE
+pub next_at : (members : List ℕ) (n : ℕ) → IsOnce members → n < length members → next_in members (get_or members n NO_INODE) ≡ get_or members (suc n) NO_INODE
 unfolding next_in
 next_at [] n once lt = absurd (omega arith)
 next_at (m ∷ members) zero once lt = cond-true (eqb m m) (head_of members) (next_in members m) (eq-eqb m m refl) ∙ head_at members
@@ -53,7 +53,7 @@ next_at (m ∷ members) (suc n) once lt =
     cond-false (eqb m a) (head_of members) (next_in members a) (ne_eqb m a (later_differs m members n NO_INODE once (omega arith)))
     ∙ next_at members n (rest_once m members once) (omega arith)
 
-next_none : (members : List ℕ) (a : ℕ) → times a members ≡ 0 → next_in members a ≡ NO_INODE
+pub next_none : (members : List ℕ) (a : ℕ) → times a members ≡ 0 → next_in members a ≡ NO_INODE
 unfolding next_in
 next_none [] a none = refl
 next_none (m ∷ members) a none =

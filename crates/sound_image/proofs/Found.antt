@@ -1,30 +1,28 @@
 -- What the inodes of a sound group are.
-use Rattle.std.proofs.Common.{◌≡◌, ◌≢◌, ◌<◌, ◌≤◌, ◌+◌, ◌-◌, ◌*◌, ◌/◌, ◌%◌, ◌⊎◌, ℕ, zero, suc, Bool, true, false, cond, List, [], ◌∷◌, ◌++◌, Option, None, Some, length, map, get_or, eqb, inl, inr, refl, ap, sym, subst, ◌∙◌, arith}
+use Rattle.std.proofs.Common.{◌≡◌, ◌≢◌, ◌<◌, ◌≤◌, ◌+◌, ◌%◌, ◌⊎◌, ℕ, zero, suc, Bool, true, false, cond, List, [], ◌∷◌, Option, None, Some, length, map, get_or, eqb, inl, inr, refl, ap, sym, subst, ◌∙◌, arith}
 use Rattle.std.specs.Prelude.{is_some, IfSome}
 use Rattle.std.specs.Option.{option_and_then}
 use Rattle.std.specs.List.{flat_map, range_with_len, AllByRecursion, slice_get}
 use Rattle.std.proofs.lemmas.Bool.{cases_eq, cases_lt, cases_order, cond-false, ne_eqb}
-use Rattle.std.proofs.lemmas.List.{length-map, get_or-map}
 use Rattle.std.proofs.lemmas.List.Concat.{flat_map-cons}
 use Rattle.std.proofs.lemmas.List.FromFn.{length-map-range_with_len, get_or-map-range_with_len}
-use Rattle.std.proofs.lemmas.Option.{none-some, same_Some, slice_get-get_or, slice_get_within}
+use Rattle.std.proofs.lemmas.Option.{same_Some, slice_get-get_or}
 use Rattle.life_bytes.specs.declared.sector.Sector.{Sector}
 use Rattle.geometry.specs.declared.shape.Geometry.{Geometry}
-use Rattle.inode_core.specs.Cores.{IsCore, IsLive, IsFree}
 use Rattle.inobt_leaf.specs.declared.chunk.ChunkRec.{ChunkRec}
 use Rattle.inobt_leaf.specs.Masks.{is_set}
 use Rattle.extent_fork.specs.declared.extent.Extent.{Extent}
-use Rattle.extent_fork.specs.Forks.{IsRun, AreRuns}
+use Rattle.extent_fork.specs.Forks.{IsRun}
 use Rattle.extent_fork.specs.Reading.{runs_in}
 use Rattle.extent_fork.specs.Runs.{runs, blocks_of}
 use Rattle.life_table.specs.declared.types.Row.{Row}
-use Rattle.life_table.specs.Table.{Inode, Chunk, Group, Table, inode_in, start_of}
-use Rattle.life_table.specs.Space.{times, chunk_blocks, row_blocks, inode_blocks, used}
+use Rattle.life_table.specs.Table.{Inode, Chunk, inode_in}
+use Rattle.life_table.specs.Space.{times, chunk_blocks, row_blocks}
 use Rattle.life_table.specs.WellFormed.{IsRow, IsInode, IsDataBlock}
 use Rattle.sound_image.specs.Reading.{core_of, blocks_in, inode_bytes, inode_read, chunk_read, group_read, inode_at, row_at, records_of}
-use Rattle.sound_image.specs.Rules.{IsCoreRight, IsForkRight, AreBlocksAlone, IsIn}
-use Rattle.sound_image.specs.Damage.{Rule, core, fork, blocks, HoldsIn}
-use Rattle.sound_image.proofs.Buckets.{Place, place_of}
+use Rattle.sound_image.specs.Rules.{IsForkRight, AreBlocksAlone}
+use Rattle.sound_image.specs.Damage.{core, fork, blocks, HoldsIn}
+use Rattle.sound_image.proofs.Buckets.{place_of}
 use Rattle.sound_image.proofs.Groups.{inode_cases, no_inode, times-append, times-cons, times-nil}
 use Rattle.sound_image.proofs.Ready.{Lower}
 use Rattle.sound_image.proofs.Rows.{row_made}

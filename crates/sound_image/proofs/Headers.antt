@@ -111,7 +111,7 @@ pub page_sector_is : (l : Lower) (g : Geometry) (t : Table) (layouts : Layouts) 
 unfolding page_sector page_place
 page_sector_is l g t layouts image group r = ap (λ (root : ℕ). sector_in g group (8 * root)) (header_read_for l g t layouts image group r).root
 
-sector_more : (g : Geometry) (group place k : ℕ) → sector_in g group place + k ≡ sector_in g group (place + k)
+pub sector_more : (g : Geometry) (group place k : ℕ) → sector_in g group place + k ≡ sector_in g group (place + k)
 unfolding sector_in
 sector_more g group place k = omega arith
 

@@ -24,11 +24,11 @@ pub is_mask : (bits : List Bool) → number_of_bits bits ≡ mask_l bits
 is_mask [] = refl
 is_mask (bit ∷ bits) = ap (λ (n : ℕ). cond bit 1 0 + 2 * n) (is_mask bits)
 
-mask_ones : (inodes : List Inode) → free_count inodes ≡ count_ones (mask_of inodes)
+pub mask_ones : (inodes : List Inode) → free_count inodes ≡ count_ones (mask_of inodes)
 unfolding mask_of free_count
 mask_ones inodes = sym (ap count_ones (is_mask (map unused inodes)) ∙ ones-mask_l unused inodes)
 
-mask_small : (inodes : List Inode) → length inodes ≡ 64 → mask_of inodes < 2 ^ 64
+pub mask_small : (inodes : List Inode) → length inodes ≡ 64 → mask_of inodes < 2 ^ 64
 unfolding mask_of
 mask_small inodes whole =
     let long : length (map unused inodes) ≡ 64 = length-map inodes unused ∙ whole in

@@ -11,17 +11,17 @@ use Rattle.sound_image.specs.Places.{part}
 use Rattle.sound_image.specs.Rules.{free_set}
 use Rattle.sound_image.specs.Spelling.{Layouts, header_for, inode_sector, page_place, page_bytes, metadata}
 
-abbrev is_bitmap : ℕ → Bool
+abbrev pub is_bitmap : ℕ → Bool
 is_bitmap place = leb 8 place && ltb place 12
 
-abbrev is_page : ℕ → ℕ → Bool
+abbrev pub is_page : ℕ → ℕ → Bool
 is_page p place = leb p place && ltb place (p + 8)
 
 -- the four cases, by the tests
-abbrev chosen : Bool → Bool → Bool → Option (List ℕ) → Option (List ℕ) → Option (List ℕ) → Option (List ℕ) → Option (List ℕ)
+abbrev pub chosen : Bool → Bool → Bool → Option (List ℕ) → Option (List ℕ) → Option (List ℕ) → Option (List ℕ) → Option (List ℕ)
 chosen a b c header map_part page inode = cond a header (cond b map_part (cond c page inode))
 
-by_tests : (g : Geometry) (layouts : Layouts) (group : ℕ) (chunks : Group) (place : ℕ) → metadata g layouts group chunks place
+pub by_tests : (g : Geometry) (layouts : Layouts) (group : ℕ) (chunks : Group) (place : ℕ) → metadata g layouts group chunks place
     ≡ chosen (eqb place 2) (is_bitmap place) (is_page (page_place layouts group) place) (Some (header_spelling (header_for g group chunks layouts)))
     (Some (part (place - 8) (bitmap (free_set g.blocks chunks)))) (Some (part (place - page_place layouts group) (page_bytes g layouts group chunks)))
     (option_map (inode_sector g layouts group place) (inode_in chunks place))

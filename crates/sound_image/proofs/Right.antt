@@ -127,7 +127,7 @@ same_tests : (p q : ℕ → Bool) (blocks : List ℕ) → ((b : ℕ) → p b ≡
 same_tests p q [] same = refl
 same_tests p q (b ∷ blocks) same = ap (λ (x : Bool). x ∷ map p blocks) (same b) ∙ ap (λ (xs : List Bool). q b ∷ xs) (same_tests p q blocks same)
 
-free_set_closed : (blocks : ℕ) (chunks : Group) → free_set blocks (map closed_chunk chunks) ≡ free_set blocks chunks
+pub free_set_closed : (blocks : ℕ) (chunks : Group) → free_set blocks (map closed_chunk chunks) ≡ free_set blocks chunks
 unfolding free_set
 free_set_closed blocks chunks = same_tests (is_free_block blocks (map closed_chunk chunks)) (is_free_block blocks chunks) (range_with_len 0 blocks) (free_closed blocks chunks)
 

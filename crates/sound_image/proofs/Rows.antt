@@ -139,10 +139,10 @@ group_is l g t layouts image group r =
 
 -- ---- the table
 
-abbrev table_made : ℕ → ℕ → List Group → Table
+abbrev pub table_made : ℕ → ℕ → List Group → Table
 table_made version blocks groups = record { version = version; blocks = blocks; groups = groups }
 
-closed_is : (t : Table) → closed t ≡ table_made t.version t.blocks (map (map closed_chunk) t.groups)
+pub closed_is : (t : Table) → closed t ≡ table_made t.version t.blocks (map (map closed_chunk) t.groups)
 unfolding map_inodes
 closed_is t = refl
 
@@ -167,7 +167,7 @@ rows_are l g t layouts image can =
 
 -- ---- the inode that is read at a number
 
-closed_in : (group : Group) (agino : ℕ) → inode_in (map closed_chunk group) agino ≡ option_map closed_inode (inode_in group agino)
+pub closed_in : (group : Group) (agino : ℕ) → inode_in (map closed_chunk group) agino ≡ option_map closed_inode (inode_in group agino)
 unfolding inode_in
 closed_in [] agino = refl
 closed_in (c ∷ cs) agino =

@@ -14,7 +14,7 @@ use Rattle.life_table.specs.Table.{Table, group_of}
 use Rattle.sound_image.specs.Places.{bytes_at, bytes_from, part, sector_in}
 use Rattle.sound_image.specs.Spelling.{Layouts, metadata, spelled, spelled_bytes}
 
-abbrev sector_of : List ℕ → Sector
+abbrev pub sector_of : List ℕ → Sector
 sector_of bytes = record { bytes = bytes }
 
 pub length-spelled : (g : Geometry) (t : Table) (layouts : Layouts) (image : List Sector) → length (spelled g t layouts image) ≡ length image
@@ -35,7 +35,7 @@ behind_groups g t layouts image s lt past =
     bytes_at-spelled g t layouts image s lt ∙ cond-false (ltb s (g.groups * group_sectors g)) _ _ (le-ltb s (g.groups * group_sectors g) past)
 
 -- a place of a group of the image
-in_image : (groups size group place : ℕ) → group < groups → place < size → group * size + place < groups * size
+pub in_image : (groups size group place : ℕ) → group < groups → place < size → group * size + place < groups * size
 in_image groups size group place lt low = let all : (group + 1) * size ≤ groups * size = grind arith in omega arith
 
 pub at_place : (g : Geometry) (t : Table) (layouts : Layouts) (image : List Sector) (group place : ℕ) → g.groups * group_sectors g ≤ length image → group < g.groups → place < group_sectors g

@@ -1,24 +1,23 @@
 -- The table of a sound image is well formed.
-use Rattle.std.proofs.Common.{◌≡◌, ◌≢◌, ◌<◌, ◌≤◌, ◌+◌, ◌-◌, ◌*◌, ◌/◌, ◌%◌, ◌⊎◌, ℕ, zero, suc, Bool, true, false, cond, eqb, List, [], ◌∷◌, ◌++◌, Option, None, Some, length, map, get_or, inl, inr, refl, ap, sym, subst, ◌∙◌, arith}
-use Rattle.std.specs.Prelude.{All}
+use Rattle.std.proofs.Common.{◌≡◌, ◌≢◌, ◌<◌, ◌≤◌, ◌+◌, ◌/◌, ◌%◌, ◌⊎◌, ℕ, zero, suc, Bool, true, false, cond, eqb, List, [], ◌∷◌, Some, length, map, get_or, inl, inr, refl, ap, sym, subst, ◌∙◌, arith}
 use Rattle.std.specs.List.{range_with_len, AllByRecursion, AllPairs, slice_get}
 use Rattle.std.proofs.lemmas.Bool.{cases_lt, cond-false, ne_eqb}
-use Rattle.std.proofs.lemmas.List.{length-map, get_or-map, get_or_default}
+use Rattle.std.proofs.lemmas.List.{length-map, get_or-map}
 use Rattle.std.proofs.lemmas.List.Elements.{All-from_recursion, recursion_from_All}
 use Rattle.std.proofs.lemmas.List.FromFn.{length-map-range_with_len, get_or-map-range_with_len}
-use Rattle.std.proofs.lemmas.Option.{none-some, same_Some, slice_get-get_or, slice_get_within}
+use Rattle.std.proofs.lemmas.Option.{slice_get-get_or, slice_get_within}
 use Rattle.life_bytes.specs.declared.sector.Sector.{Sector}
 use Rattle.geometry.specs.declared.shape.Geometry.{Geometry}
 use Rattle.geometry.specs.Shape.{IsGeometry}
 use Rattle.inobt_leaf.specs.declared.chunk.ChunkRec.{ChunkRec}
 use Rattle.inobt_leaf.specs.Chunks.{IsLeaf}
-use Rattle.life_table.specs.Table.{Inode, Chunk, Group, Table, inode_in}
+use Rattle.life_table.specs.Table.{Inode, Chunk, Group, inode_in}
 use Rattle.life_table.specs.Space.{times, chunk_blocks, row_blocks, inode_blocks, used}
 use Rattle.life_table.specs.WellFormed.{IsInode, IsChunk, Ascends, IsDataBlock, IsGroup, IsTable}
 use Rattle.sound_image.specs.Reading.{records_of, inode_read, chunk_read, group_read, rows_of}
-use Rattle.sound_image.specs.Rules.{IsPageRight, IsInData}
-use Rattle.sound_image.specs.Damage.{Rule, header, tree, core, fork, blocks, bitmap, pointers, lists, HoldsIn, IsSound}
-use Rattle.sound_image.proofs.Found.{IsGood, is_good, in_ranges, inode_of_chunk, row_data, row_once, row_not_chunk, two_rows}
+use Rattle.sound_image.specs.Rules.{IsPageRight}
+use Rattle.sound_image.specs.Damage.{tree, core, fork, blocks, IsSound}
+use Rattle.sound_image.proofs.Found.{IsGood, is_good, in_ranges, row_data, row_once, row_not_chunk, two_rows}
 use Rattle.sound_image.proofs.Groups.{times-cons, times-nil, used_first, inode_first}
 use Rattle.sound_image.proofs.Leaves.{below_later, no_chunk}
 use Rattle.sound_image.proofs.Ready.{Lower}
@@ -209,7 +208,7 @@ group_is_map g image group = refl
 abbrev no_record : ChunkRec
 no_record = record { start = 0; free = 0; mask = 0 }
 
-length_group : (g : Geometry) (image : List Sector) (group : ℕ) → length (group_read g image group) ≡ length (records_of g image group)
+pub length_group : (g : Geometry) (image : List Sector) (group : ℕ) → length (group_read g image group) ≡ length (records_of g image group)
 length_group g image group = ap length (group_is_map g image group) ∙ length-map (records_of g image group) (chunk_read g image group)
 
 chunk_at : (g : Geometry) (image : List Sector) (group k : ℕ) (d : Chunk) → k < length (records_of g image group)

@@ -1,11 +1,15 @@
 -- Where things stand in an image, which is the list of its sectors from 0 on, and their bytes.
-use Rattle.std.specs.Prelude.{◌+◌, ◌*◌, ℕ, List, slice_index_or, take, drop}
+use Rattle.std.specs.Prelude.{◌≡◌, ◌+◌, ◌*◌, ℕ, List, length, slice_index_or, take, drop, All}
 use Rattle.std.specs.List.{flat_map, range_with_len}
 use Rattle.life_limits.specs.declared.TheConstants.{BLOCK_SECTORS, GROUP_NUMBERS, SECTOR_BYTES}
 use Rattle.life_bytes.specs.declared.sector.Sector.{Sector}
 use Rattle.life_bytes.specs.Sectors.{zero_sector}
 use Rattle.geometry.specs.declared.shape.Geometry.{Geometry}
 use Rattle.geometry.specs.Places.{group_sectors}
+
+-- each has the bytes of a sector, as every value of that type has
+abbrev pub AreSectors : List Sector → Type 0
+AreSectors image = All (λ sector. length sector.bytes ≡ SECTOR_BYTES) image
 
 -- the bytes of a sector
 unfoldable pub bytes_at : List Sector → ℕ → List ℕ

@@ -8,7 +8,7 @@ ghost use Rattle.geometry.specs.Shape.{IsGeometry};
 ghost use Rattle.life_table.specs.Table.{Table, group_of};
 ghost use Rattle.life_table.specs.History.{closed};
 ghost use Rattle.life_table.specs.WellFormed.{IsTable};
-ghost use Rattle.sound_image.specs.Places.{bytes_at, sector_in};
+ghost use Rattle.sound_image.specs.Places.{bytes_at, sector_in, AreSectors};
 ghost use Rattle.sound_image.specs.Reading.{rows_of};
 ghost use Rattle.sound_image.specs.Damage.{Rule, FirstDamage, IsSound};
 ghost use Rattle.sound_image.specs.Spelling.{Layouts, CanSpell, metadata, spelled};
@@ -46,6 +46,8 @@ pub fn spelling_leaves_the_rest()
     ensures others { (g : Geometry) (t : Table) (layouts : Layouts) (image : List Sector) (group place : ℕ) → g.groups * group_sectors g ≤ length image → group < g.groups
         → place < group_sectors g → metadata g layouts group (group_of t group) place ≡ None
         → bytes_at (spelled g t layouts image) (sector_in g group place) ≡ bytes_at image (sector_in g group place) }
+    // Nor does it tell who holds an inode.
+    ensures no_opens { (g : Geometry) (t : Table) (layouts : Layouts) (image : List Sector) → spelled g (closed t) layouts image ≡ spelled g t layouts image }
 {}
 
 /// A law: an image has at most one first damage, and none where it is sound.
@@ -58,6 +60,18 @@ pub fn one_first_damage()
 pub fn sound_tables_are_well_formed()
     ensures well_formed { (g : Geometry) (image : List Sector) → IsGeometry g → IsSound g image → IsTable (rows_of g image) }
     ensures no_opens { (g : Geometry) (image : List Sector) → closed (rows_of g image) ≡ rows_of g image }
+{
+    spelled_cores_are_read();
+    spelled_headers_are_read();
+    spelled_pages_are_read();
+    spelled_forks_are_read();
+    numbers_hold_their_bits();
+}
+
+/// A law: a sound image is the spelling of its table, with layouts of it. So the rules leave no sector of the format open, and hold of no other image.
+pub fn sound_images_are_spelled()
+    ensures { (g : Geometry) (image : List Sector) → IsGeometry g → IsSound g image → g.groups * group_sectors g ≤ length image → AreSectors image
+        → (layouts : Layouts) × CanSpell g (rows_of g image) layouts image × (spelled g (rows_of g image) layouts image ≡ image) }
 {
     spelled_cores_are_read();
     spelled_headers_are_read();

@@ -1,3 +1,4 @@
+use Rattle.sound_image.proofs.Opens.{spelled_closed}
 use Rattle.sound_image.proofs.Sectors.{length-spelled, behind_groups, at_rest}
 use Rattle.sound_image.proofs.Whole.{first_stays}
 use Rattle.sound_image.proofs.laws.spelling_leaves_the_rest.Goals as goal
@@ -13,3 +14,6 @@ returns-clause-behind c = behind_groups
 
 pub returns-clause-others : goal.returns-clause-others
 returns-clause-others c = at_rest
+
+pub returns-clause-no_opens : goal.returns-clause-no_opens
+returns-clause-no_opens c = spelled_closed
