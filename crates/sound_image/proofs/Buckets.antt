@@ -10,7 +10,9 @@ use Rattle.geometry.specs.declared.shape.Geometry.{Geometry}
 use Rattle.ag_header.specs.declared.agi.Agi.{Agi}
 use Rattle.life_limits.specs.declared.TheConstants.{NO_INODE}
 use Rattle.life_table.specs.declared.types.Row.{Row}
-use Rattle.life_table.specs.Table.{Inode, Group, Table, group_of, inode_in}
+use Rattle.life_table.specs.declared.table.Inode.{Inode}
+use Rattle.life_table.specs.declared.table.Table.{Table}
+use Rattle.life_table.specs.Table.{Group, group_of, inode_in}
 use Rattle.life_table.specs.History.{closed_inode, closed_row}
 use Rattle.life_table.specs.Space.{times}
 use Rattle.sound_image.specs.Reading.{core_of, row_at}

@@ -16,7 +16,9 @@ use Rattle.extent_fork.specs.Forks.{IsRun}
 use Rattle.extent_fork.specs.Reading.{runs_in}
 use Rattle.extent_fork.specs.Runs.{runs, blocks_of}
 use Rattle.life_table.specs.declared.types.Row.{Row}
-use Rattle.life_table.specs.Table.{Inode, Chunk, inode_in}
+use Rattle.life_table.specs.declared.table.Inode.{Inode}
+use Rattle.life_table.specs.declared.table.Chunk.{Chunk}
+use Rattle.life_table.specs.Table.{inode_in}
 use Rattle.life_table.specs.Space.{times, chunk_blocks, row_blocks}
 use Rattle.life_table.specs.WellFormed.{IsRow, IsInode, IsDataBlock}
 use Rattle.sound_image.specs.Reading.{core_of, blocks_in, inode_bytes, inode_read, chunk_read, group_read, inode_at, row_at, records_of}

@@ -13,7 +13,8 @@ use Rattle.inobt_leaf.specs.declared.chunk.ChunkRec.{ChunkRec}
 use Rattle.inobt_leaf.specs.Chunks.{IsLeaf}
 use Rattle.inobt_leaf.specs.Pages.{chunks_in}
 use Rattle.inobt_leaf.specs.Pages.{spelling as page_spelling}
-use Rattle.life_table.specs.Table.{Group, Table, group_of}
+use Rattle.life_table.specs.declared.table.Table.{Table}
+use Rattle.life_table.specs.Table.{Group, group_of}
 use Rattle.life_table.specs.Space.{times}
 use Rattle.sound_image.specs.Places.{bytes_at, bytes_from, part, sector_in}
 use Rattle.sound_image.specs.Reading.{header_of, page_sector, records_of}

@@ -19,7 +19,9 @@ use Rattle.extent_fork.specs.Forks.{IsRun, AreRuns, HasFork, fork}
 use Rattle.extent_fork.specs.Reading.{runs_in}
 use Rattle.extent_fork.specs.Runs.{runs, blocks_of}
 use Rattle.life_table.specs.declared.types.Row.{Row}
-use Rattle.life_table.specs.Table.{Inode, Group, Table, group_of, inode_in}
+use Rattle.life_table.specs.declared.table.Inode.{Inode}
+use Rattle.life_table.specs.declared.table.Table.{Table}
+use Rattle.life_table.specs.Table.{Group, group_of, inode_in}
 use Rattle.life_table.specs.Space.{times, row_blocks}
 use Rattle.life_table.specs.WellFormed.{IsRow, IsGroup}
 use Rattle.sound_image.specs.Places.{bytes_at, sector_in, number_in}

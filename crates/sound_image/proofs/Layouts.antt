@@ -10,7 +10,8 @@ use Rattle.life_bytes.specs.declared.sector.Sector.{Sector}
 use Rattle.geometry.specs.declared.shape.Geometry.{Geometry}
 use Rattle.life_limits.specs.declared.TheConstants.{NO_INODE}
 use Rattle.life_table.specs.declared.types.Row.{Row}
-use Rattle.life_table.specs.Table.{Inode, inode_in}
+use Rattle.life_table.specs.declared.table.Inode.{Inode}
+use Rattle.life_table.specs.Table.{inode_in}
 use Rattle.life_table.specs.Space.{times}
 use Rattle.sound_image.specs.Reading.{core_of, group_read, inode_at, row_at}
 use Rattle.sound_image.specs.Rules.{pointer, IsMember, AreMembers, Ends, IsMet}

@@ -10,7 +10,9 @@ use Rattle.std.specs.Simd.Lanes.{mask_l}
 use Rattle.free_map.specs.Bitmap.{number_of_bits}
 use Rattle.inobt_leaf.specs.declared.chunk.ChunkRec.{ChunkRec}
 use Rattle.inobt_leaf.specs.Chunks.{IsChunk as IsChunkRecord, IsLeaf}
-use Rattle.life_table.specs.Table.{Inode, Chunk, Group}
+use Rattle.life_table.specs.declared.table.Inode.{Inode}
+use Rattle.life_table.specs.declared.table.Chunk.{Chunk}
+use Rattle.life_table.specs.Table.{Group}
 use Rattle.life_table.specs.WellFormed.{IsChunk, Ascends}
 use Rattle.sound_image.specs.Rules.{IsInData}
 use Rattle.sound_image.specs.Spelling.{mask_of, free_count, record_of}

@@ -7,7 +7,10 @@ use Rattle.geometry.specs.Superblock.{SuperblocksTell}
 use Rattle.inobt_leaf.specs.declared.chunk.ChunkRec.{ChunkRec}
 use Rattle.inobt_leaf.specs.Masks.{is_set}
 use Rattle.life_table.specs.declared.types.Row.{Row}
-use Rattle.life_table.specs.Table.{Inode, Chunk, Group, Table, map_inodes}
+use Rattle.life_table.specs.declared.table.Inode.{Inode}
+use Rattle.life_table.specs.declared.table.Chunk.{Chunk}
+use Rattle.life_table.specs.declared.table.Table.{Table}
+use Rattle.life_table.specs.Table.{Group}
 use Rattle.life_table.specs.History.{closed, closed_inode, closed_row}
 use Rattle.sound_image.specs.Reading.{core_of, blocks_in, inode_read, chunk_read, group_read, rows_of, records_of}
 use Rattle.sound_image.specs.Stands.{Stands}
@@ -45,7 +48,7 @@ abbrev table_made : ℕ → ℕ → List Group → Table
 table_made version blocks groups = record { version = version; blocks = blocks; groups = groups }
 
 pub no_opens : (g : Geometry) (image : List Sector) → closed (rows_of g image) ≡ rows_of g image
-unfolding rows_of map_inodes
+unfolding rows_of
 no_opens g image = ap (table_made g.version g.blocks) (same_all (group_read g image) (map closed_chunk) (group_same g image) (range_with_len 0 g.groups))
 
 pub one_table : SuperblocksTell → (a b : Geometry) (image : List Sector) (t u : Table) → Stands a image t → Stands b image u → (a ≡ b) × (t ≡ u)

@@ -15,7 +15,10 @@ use Rattle.inobt_leaf.specs.declared.chunk.ChunkRec.{ChunkRec}
 use Rattle.inobt_leaf.specs.Pages.{spelling as page_spelling}
 use Rattle.free_map.specs.Bitmap.{number_of_bits, bitmap}
 use Rattle.life_table.specs.declared.types.Row.{Row}
-use Rattle.life_table.specs.Table.{Inode, Chunk, Group, Table, group_of, inode_in}
+use Rattle.life_table.specs.declared.table.Inode.{Inode}
+use Rattle.life_table.specs.declared.table.Chunk.{Chunk}
+use Rattle.life_table.specs.declared.table.Table.{Table}
+use Rattle.life_table.specs.Table.{Group, group_of, inode_in}
 use Rattle.life_table.specs.History.{closed, closed_inode, closed_row}
 use Rattle.sound_image.specs.Places.{bytes_at, part, sector_in}
 use Rattle.sound_image.specs.Rules.{free_set}

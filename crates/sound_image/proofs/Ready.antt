@@ -14,7 +14,9 @@ use Rattle.inobt_leaf.specs.PageLaws.{PagesAreRead}
 use Rattle.inobt_leaf.specs.Chunks.{IsLeaf}
 use Rattle.free_map.specs.Bitmap.{BitsAreHeld}
 use Rattle.life_table.specs.declared.types.Row.{Row}
-use Rattle.life_table.specs.Table.{Inode, Group, Table, group_of, inode_in}
+use Rattle.life_table.specs.declared.table.Inode.{Inode}
+use Rattle.life_table.specs.declared.table.Table.{Table}
+use Rattle.life_table.specs.Table.{Group, group_of, inode_in}
 use Rattle.life_table.specs.Space.{times}
 use Rattle.life_table.specs.WellFormed.{IsGroup}
 use Rattle.sound_image.specs.Spelling.{page_place, Layouts, CanSpell, list_of, is_unlinked, is_unlinked_row, record_of}

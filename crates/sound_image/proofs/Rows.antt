@@ -14,7 +14,10 @@ use Rattle.inode_core.specs.declared.shape.Core.{Core}
 use Rattle.inobt_leaf.specs.declared.chunk.ChunkRec.{ChunkRec}
 use Rattle.inobt_leaf.specs.Masks.{is_set}
 use Rattle.life_table.specs.declared.types.Row.{Row}
-use Rattle.life_table.specs.Table.{Inode, Chunk, Group, Table, group_of, inode_in, start_of, map_inodes}
+use Rattle.life_table.specs.declared.table.Inode.{Inode}
+use Rattle.life_table.specs.declared.table.Chunk.{Chunk}
+use Rattle.life_table.specs.declared.table.Table.{Table}
+use Rattle.life_table.specs.Table.{Group, group_of, inode_in, start_of}
 use Rattle.life_table.specs.History.{closed, closed_inode, closed_row}
 use Rattle.life_table.specs.WellFormed.{IsChunk, Ascends}
 use Rattle.sound_image.specs.Reading.{core_of, blocks_in, inode_read, chunk_read, group_read, rows_of, inode_at, row_at}
@@ -143,7 +146,6 @@ abbrev pub table_made : ℕ → ℕ → List Group → Table
 table_made version blocks groups = record { version = version; blocks = blocks; groups = groups }
 
 pub closed_is : (t : Table) → closed t ≡ table_made t.version t.blocks (map (map closed_chunk) t.groups)
-unfolding map_inodes
 closed_is t = refl
 
 pub rows_are : (l : Lower) (g : Geometry) (t : Table) (layouts : Layouts) (image : List Sector) → CanSpell g t layouts image → rows_of g (spelled g t layouts image) ≡ closed t

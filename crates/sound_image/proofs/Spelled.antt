@@ -13,7 +13,8 @@ use Rattle.inobt_leaf.specs.Chunks.{IsLeaf}
 use Rattle.inobt_leaf.specs.Chunks.{IsChunk as IsChunkRecord}
 use Rattle.inobt_leaf.specs.Masks.{is_set}
 use Rattle.life_table.specs.declared.types.Row.{Row}
-use Rattle.life_table.specs.Table.{Inode, Chunk}
+use Rattle.life_table.specs.declared.table.Inode.{Inode}
+use Rattle.life_table.specs.declared.table.Chunk.{Chunk}
 use Rattle.sound_image.specs.Reading.{core_of, blocks_in, inode_read, chunk_read, group_read, records_of}
 use Rattle.sound_image.specs.Spelling.{mask_of, free_count, record_of}
 use Rattle.sound_image.proofs.Leaves.{unused, mask_ones, mask_small}

@@ -11,7 +11,9 @@ use Rattle.geometry.specs.declared.shape.Geometry.{Geometry}
 use Rattle.geometry.specs.Shape.{IsGeometry}
 use Rattle.inobt_leaf.specs.declared.chunk.ChunkRec.{ChunkRec}
 use Rattle.inobt_leaf.specs.Chunks.{IsLeaf}
-use Rattle.life_table.specs.Table.{Inode, Chunk, Group, inode_in}
+use Rattle.life_table.specs.declared.table.Inode.{Inode}
+use Rattle.life_table.specs.declared.table.Chunk.{Chunk}
+use Rattle.life_table.specs.Table.{Group, inode_in}
 use Rattle.life_table.specs.Space.{times, chunk_blocks, row_blocks, inode_blocks, used}
 use Rattle.life_table.specs.WellFormed.{IsInode, IsChunk, Ascends, IsDataBlock, IsGroup, IsTable}
 use Rattle.sound_image.specs.Reading.{records_of, inode_read, chunk_read, group_read, rows_of}

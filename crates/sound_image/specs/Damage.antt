@@ -4,7 +4,7 @@ use Rattle.life_limits.specs.declared.TheConstants.{BUCKETS}
 use Rattle.life_bytes.specs.declared.sector.Sector.{Sector}
 use Rattle.geometry.specs.declared.shape.Geometry.{Geometry}
 use Rattle.life_table.specs.declared.types.Row.{Row}
-use Rattle.life_table.specs.Table.{Inode}
+use Rattle.life_table.specs.declared.table.Inode.{Inode}
 use Rattle.sound_image.specs.Places.{sector_in, header_place, bitmap_place, bitmap_sectors}
 use Rattle.sound_image.specs.Reading.{page_sector, inode_at, row_at}
 use Rattle.sound_image.specs.Rules.{IsHeaderRight, IsPageRight, AreCountsRight, IsCoreRight, IsForkRight, AreBlocksAlone, IsBitmapRight, Ends, IsWrongPointer, holder, IsListed}

@@ -16,7 +16,10 @@ use Rattle.inobt_leaf.specs.declared.chunk.ChunkRec.{ChunkRec}
 use Rattle.inobt_leaf.specs.Pages.{chunks_in}
 use Rattle.inobt_leaf.specs.Masks.{is_set}
 use Rattle.life_table.specs.declared.types.Row.{Row}
-use Rattle.life_table.specs.Table.{Inode, Chunk, Group, Table, inode_in}
+use Rattle.life_table.specs.declared.table.Inode.{Inode}
+use Rattle.life_table.specs.declared.table.Chunk.{Chunk}
+use Rattle.life_table.specs.declared.table.Table.{Table}
+use Rattle.life_table.specs.Table.{Group, inode_in}
 use Rattle.sound_image.specs.Places.{bytes_at, bytes_from, sector_in, header_place}
 
 -- the header of a group

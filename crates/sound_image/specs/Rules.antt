@@ -14,7 +14,8 @@ use Rattle.inobt_leaf.specs.Chunks.{IsLeaf}
 use Rattle.inobt_leaf.specs.Pages.{spelling}
 use Rattle.free_map.specs.Bitmap.{bitmap}
 use Rattle.life_table.specs.declared.types.Row.{Row}
-use Rattle.life_table.specs.Table.{Inode, Group}
+use Rattle.life_table.specs.declared.table.Inode.{Inode}
+use Rattle.life_table.specs.Table.{Group}
 use Rattle.life_table.specs.Space.{times, chunk_blocks, chunk_length, row_blocks, is_free_block}
 use Rattle.sound_image.specs.Places.{bytes_at, bytes_from, part, sector_in, number_in, header_place, bitmap_place}
 use Rattle.sound_image.specs.Reading.{header_of, page_sector, records_of, inode_bytes, core_of, blocks_in, group_read, row_at}

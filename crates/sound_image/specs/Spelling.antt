@@ -18,7 +18,10 @@ use Rattle.inobt_leaf.specs.declared.chunk.ChunkRec.{ChunkRec}
 use Rattle.inobt_leaf.specs.Pages.{spelling as page_spelling}
 use Rattle.free_map.specs.Bitmap.{number_of_bits, bitmap}
 use Rattle.life_table.specs.declared.types.Row.{Row}
-use Rattle.life_table.specs.Table.{Inode, Chunk, Group, Table, inode_in, group_of}
+use Rattle.life_table.specs.declared.table.Inode.{Inode}
+use Rattle.life_table.specs.declared.table.Chunk.{Chunk}
+use Rattle.life_table.specs.declared.table.Table.{Table}
+use Rattle.life_table.specs.Table.{Group, inode_in, group_of}
 use Rattle.life_table.specs.Space.{times}
 use Rattle.life_table.specs.WellFormed.{IsTable}
 use Rattle.sound_image.specs.Places.{bytes_at, part, sector_in, number_in, header_place, bitmap_place, bitmap_sectors}

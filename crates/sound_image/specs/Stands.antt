@@ -5,7 +5,7 @@ use Rattle.geometry.specs.declared.shape.Geometry.{Geometry}
 use Rattle.geometry.specs.Places.{group_sectors}
 use Rattle.geometry.specs.Shape.{IsGeometry}
 use Rattle.geometry.specs.Superblock.{spelling}
-use Rattle.life_table.specs.Table.{Table}
+use Rattle.life_table.specs.declared.table.Table.{Table}
 use Rattle.sound_image.specs.Places.{bytes_at}
 use Rattle.sound_image.specs.Reading.{rows_of}
 use Rattle.sound_image.specs.Damage.{IsSound}
