@@ -292,3 +292,55 @@ fn a_torn_record_counts_for_nothing(rt: HostRuntime) -> Result<(), Fail> {
     }
     Ok(())
 }
+
+// How many inodes a run made, and how many of them a sync answered for, by the lines of its script and its answers.
+fn made_and_acknowledged(script: &str, written: &str) -> (u64, u64) {
+    let mut made: u64 = 0;
+    let mut acknowledged = 0;
+    for (line, answer) in script.split('\n').zip(written.split('\n')) {
+        let went_well = answer.starts_with("ok ");
+        if went_well && line.starts_with("create") {
+            made = made.saturating_add(1);
+        }
+        if went_well && line.starts_with("sync") {
+            acknowledged = made;
+        }
+    }
+    (made, acknowledged)
+}
+
+// Whether a run that mounts and creates finds as many inodes as it can, by what it writes.
+fn finds_between(alloc: Global, written: &str, least: u64, most: u64) -> Result<bool, Fail> {
+    for found in least..=most.min(64) {
+        let mut wanted = String::from_str(alloc, "ok kept 0 freed 0\n")?;
+        write!(wanted, "ok {}.1\n", found + 192)?;
+        if wanted.as_str() == written {
+            return Ok(true);
+        }
+    }
+    Ok(false)
+}
+
+// Each call of the disk fails in turn, from the last read of the mount on, and a stop leaves each of what it may.
+#[test]
+fn a_stop_leaves_a_prefix_that_holds_what_was_acknowledged(rt: HostRuntime) -> Result<(), Fail> {
+    let alloc = rt.alloc();
+    let scripts = [
+        "mount\ncreate 0 a\nsync\n",
+        "mount\ncreate 0 a\nsync\ncreate 0 b\nsync\ncreate 0 c\n",
+        "mount\ncreate 0 a\ncreate 0 b\nsync\nsync\ncreate 0 c\nsync\n",
+    ];
+    for script in scripts {
+        for fails_at in 72..79 {
+            for choice in 0..16 {
+                let mut images = one_disk(alloc, 72, vec![in alloc; fails_at]?)?;
+                let ended = run_words(alloc, &mut images, &["steps", "disk"], script)?;
+                let (made, acknowledged) = made_and_acknowledged(script, ended.written.as_str());
+                let next = next_run(alloc, ended.disk, choice, "mount\ncreate 0 z\n")?;
+                let is_prefix = finds_between(alloc, next.written.as_str(), acknowledged, made)?;
+                assert!(rt; is_prefix, "{script} fails at {fails_at}, choice {choice}");
+            }
+        }
+    }
+    Ok(())
+}

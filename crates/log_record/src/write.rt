@@ -112,7 +112,12 @@ pub fn fill_images(numbers: &RecordNumbers, images: &[Image], into: &mut [Sector
     ensures fits { FitsFields (record_of numbers.now images.now) }
 {
     stamp_all(into, numbers.position);
-    let header = header_bytes(numbers.tail, numbers.first, numbers.commits, images.len() as u32);
+    let header = header_bytes(
+        numbers.tail,
+        numbers.first,
+        numbers.commits,
+        images.len() as u32,
+    );
     put_payload(into, 0, &header);
     let mut at = HEADER;
     for image in images {

@@ -178,7 +178,7 @@ log_added laws old new records item log next partly all =
       each = All-push (IsLogged new (2 * length new)) records item (λ k d lt. stays laws old new item (get_or records k d) next partly (log.each k d lt)) logged;
       all = λ other is. elim (cases_lt other.position item.position) [
         | inl lt ↦ Contains-append_left records (item ∷ []) other
-              (log.all other (was_there laws old new item other next partly is (λ here. omega (arith, lt, here))))
+            (log.all other (was_there laws old new item other next partly is (λ here. omega (arith, lt, here))))
         | inr le ↦ elim (cases_lt item.position other.position) [
           | inl more ↦
               let there = was_there laws old new item other next partly is (λ here. omega (arith, more, here)) in
