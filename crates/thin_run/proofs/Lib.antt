@@ -5,6 +5,7 @@ pub mod Founds
 pub mod History
 pub mod Holding
 pub mod Homes
+pub mod OneTable
 pub mod Steps
 pub mod Tables
 pub mod Torn
