@@ -6,7 +6,7 @@ use Rattle.thin_run.specs.declared.types.Status.{Status}
 use Rattle.thin_run.specs.declared.types.Status.TheVariants as status
 use Rattle.std.specs.Option.{MatchOption, IfSome}
 use Rattle.disk_model.specs.Images.{Given, attached}
-use Rattle.life_cli.specs.Outcome.{Yields, YieldsRead, Replied, EndsAs, WhereTold, IsReadable, IsOutsideAt, FaultsExactly, IsTooLongExactly, most_bytes}
+use Rattle.life_cli.specs.Outcome.{Yields, YieldsRead, Replied, EndsAs, WhereTold, IsReadable, IsOutsideAt, CompletesAs, FaultsExactly, IsTooLongExactly, most_bytes}
 use Rattle.thin_run.specs.Outcome.{Caused}
 use Rattle.life_cli.specs.Script.{first_outside, lines_of}
 
@@ -102,6 +102,26 @@ IsTooLongExactly-from (Some bytes) a b c d ended result ends yields = record {
   told = told_long bytes a b c d ended result ends yields;
   exact = due_long bytes a b c d ended result ends yields;
 }
+
+complete : (bytes : List ℕ) (a b c d : ℕ) (ended result : Status) → EndsAs (Some bytes) a b c d ended → Yields result ended → IsReadable bytes → CompletesAs result
+complete bytes a b c d status.Good result ends yields readable = inr (inr yields)
+complete bytes a b c d status.Usage result ends yields readable = absurd ends
+complete bytes a b c d (status.ScriptFault line rule) result ends yields readable = absurd (not_readable bytes line readable ends.1)
+complete bytes a b c d status.ScriptTooLong result ends yields readable =
+    let short : length bytes ≤ most_bytes = readable.short in
+    let long : most_bytes < length bytes = ends in
+    absurd (omega arith)
+complete bytes a b c d status.OpenFault result ends (inl e) readable = inl e
+complete bytes a b c d status.OpenFault result ends (inr other) readable = inr (inr (inr other))
+complete bytes a b c d status.SourceFault result ends yields readable = inr (by_source result status.Good yields)
+complete bytes a b c d status.SinkFault result ends yields readable = absurd ends
+complete bytes a b c d status.NoMemory result ends yields readable = inr (by_memory result status.Good yields)
+
+-- a readable script ends well, unless something failed
+pub CompletesAs-from : (script : Option (List ℕ)) (a b c d : ℕ) (ended result : Status) → EndsAs script a b c d ended → Yields result ended
+    → WhereTold script (λ bytes. IsReadable bytes → CompletesAs result)
+CompletesAs-from None a b c d ended result ends yields = tt
+CompletesAs-from (Some bytes) a b c d ended result ends yields = complete bytes a b c d ended result ends yields
 
 well : (result ended : Status) → Yields result ended → result ≡ status.Good → ended ≡ status.Good
 well result ended (inl e) good = sym e ∙ good

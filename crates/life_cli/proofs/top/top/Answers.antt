@@ -1,7 +1,7 @@
 use Rattle.std.proofs.Common.{◌≡◌, sym, ◌∙◌}
 use Rattle.thin_run.specs.declared.types.Status.TheVariants as status
 use Rattle.life_cli.proofs.Openings.{Replied-none}
-use Rattle.life_cli.proofs.Statuses.{FaultsExactly-from, IsTooLongExactly-from, Replied-written, given_causes}
+use Rattle.life_cli.proofs.Statuses.{CompletesAs-from, FaultsExactly-from, IsTooLongExactly-from, Replied-written, given_causes}
 use Rattle.life_cli.proofs.top.top.Goals as goal
 
 pub returns-in-Some-clause-causes : goal.returns-in-Some-clause-causes
@@ -20,6 +20,12 @@ returns-in-Some-clause-script_fault g c path is =
 pub returns-in-Some-clause-script_too_long : goal.returns-in-Some-clause-script_too_long
 returns-in-Some-clause-script_too_long g c path is =
     IsTooLongExactly-from (g.S.Source.bytes_left c.args.script.now) (g.S.Source.fault_count c.args.script.now) (g.S.Source.fault_count c.run_steps.new.script)
+    (g.I.Images.fault_count c.args.images.now) (g.I.Images.fault_count c.run_steps.new.images) c.run_steps.result.status c.write_out.result.status
+    c.run_steps.ensures.ends c.write_out.ensures.status
+
+pub returns-in-Some-clause-complete : goal.returns-in-Some-clause-complete
+returns-in-Some-clause-complete g c path is =
+    CompletesAs-from (g.S.Source.bytes_left c.args.script.now) (g.S.Source.fault_count c.args.script.now) (g.S.Source.fault_count c.run_steps.new.script)
     (g.I.Images.fault_count c.args.images.now) (g.I.Images.fault_count c.run_steps.new.images) c.run_steps.result.status c.write_out.result.status
     c.run_steps.ensures.ends c.write_out.ensures.status
 
