@@ -1,10 +1,9 @@
 -- The table with no holds, and the changes of a history.
-use Rattle.std.proofs.Common.{◌≡◌, ◌≢◌, ◌==◌, ◌+◌, ◌-◌, ◌*◌, ◌/◌, ◌%◌, ◌<◌, ◌≤◌, ◌&&◌, ℕ, zero, suc, Bool, true, false, List, [], ◌∷◌, ◌++◌, Option, None, Some, IsSomeAnd, option_map, is_none, is_some, if◌then◌else◌, nat_le, nat_lt, map, filter, find, length, take, slice_get, slice_set, slice_index_or, replicate, refl, sym, ap, subst, ◌∙◌, inl, inr, arith}
-use Rattle.std.specs.List.{flat_map, list_all, range_with_len}
-use Rattle.std.proofs.lemmas.Option.{none-some, same_Some}
+use Rattle.std.proofs.Common.{◌≡◌, ◌==◌, ◌+◌, ◌-◌, ◌*◌, ◌%◌, ◌&&◌, ℕ, zero, suc, Bool, true, false, List, [], ◌∷◌, ◌++◌, Option, None, Some, option_map, is_none, is_some, if◌then◌else◌, nat_le, nat_lt, map, filter, find, length, take, slice_get, replicate, refl, sym, ap, ◌∙◌, arith}
+use Rattle.std.specs.List.{list_all, range_with_len}
 use Rattle.std.proofs.lemmas.List.{length-map, take_all}
 use Rattle.std.proofs.lemmas.Bool.{true≢false, false≢true}
-use Rattle.life_limits.specs.declared.TheConstants.{CHUNK_INODES, FIRST_DATA_BLOCK, GROUP_NUMBERS, MAX_CHUNKS}
+use Rattle.life_limits.specs.declared.TheConstants.{FIRST_DATA_BLOCK, GROUP_NUMBERS, MAX_CHUNKS}
 use Rattle.life_table.specs.declared.key.Key.{Key}
 use Rattle.life_table.specs.declared.types.Row.{Row}
 use Rattle.life_table.specs.declared.types.Call.{Call}
@@ -17,12 +16,12 @@ use Rattle.life_table.specs.declared.types.Entry.{Entry}
 use Rattle.life_table.specs.declared.table.Inode.{Inode}
 use Rattle.life_table.specs.declared.table.Chunk.{Chunk}
 use Rattle.life_table.specs.declared.table.Table.{Table}
-use Rattle.life_table.specs.Table.{Group, group_number, group_of, with_group, inode_of, row_in_life, row_of, with_row, in_use, with_inode, map_chunk, map_group, map_inodes}
+use Rattle.life_table.specs.Table.{Group, group_number, group_of, with_group, inode_of, row_in_life, row_of, with_row, in_use, with_inode, map_chunk, map_group}
 use Rattle.life_table.specs.Space.{times, chunk_blocks, row_blocks, inode_blocks, used, is_free_block, free_blocks, begins_run, chunk_place, new_chunk, insert_chunk, is_free, keys_from, free_keys, lowest_key, with_chunk, prepared}
-use Rattle.life_table.specs.Legal.{free_of, grown_blocks, prepare, KeyReplies, Permits, made_row, row_after, with_changed, after_call, freed}
+use Rattle.life_table.specs.Legal.{free_of, prepare, KeyReplies, Permits, made_row, row_after, with_changed, after_call}
 use Rattle.life_table.specs.History.{Happens, Leads, changed, is_change, changes, after_event, after_entries, closed_row, closed_inode, closed, After}
 use Rattle.life_table.proofs.Mapped.{group_of-map, inode_of-map, with_group-map, with_inode-map, with_inode-itself, map_inodes-twice}
-use Rattle.life_table.proofs.Moves.{HasRow, HasRow-from}
+use Rattle.life_table.proofs.Moves.{HasRow-from}
 
 abbrev closed_group : Group → Group
 closed_group group = map_group closed_inode group

@@ -1,13 +1,13 @@
 -- How often blocks stand in lists, in the parts of a group, and among the free ones.
-use Rattle.std.proofs.Common.{◌≡◌, ◌≢◌, ◌==◌, ◌+◌, ◌-◌, ◌*◌, ◌/◌, ◌%◌, ◌<◌, ◌≤◌, ◌&&◌, ◌⊎◌, ℕ, zero, suc, Bool, true, false, cond, List, [], ◌∷◌, ◌++◌, Option, None, Some, if◌then◌else◌, nat_le, nat_lt, length, take, filter, find, flat_map, slice_get, slice_set, replicate, refl, sym, ap, subst, ◌∙◌, inl, inr, arith}
+use Rattle.std.proofs.Common.{◌≡◌, ◌==◌, ◌+◌, ◌/◌, ◌%◌, ◌<◌, ◌≤◌, ◌⊎◌, ℕ, zero, suc, Bool, true, false, cond, List, [], ◌∷◌, ◌++◌, None, Some, if◌then◌else◌, nat_le, nat_lt, length, take, filter, slice_get, slice_set, replicate, refl, sym, ap, ◌∙◌, inl, inr, arith}
 use Rattle.std.specs.List.{range_with_len, AllByRecursion}
 use Rattle.std.proofs.lemmas.Option.{none-some, same_Some}
-use Rattle.std.proofs.lemmas.Bool.{eqb-true, eqb-false, eq-eqb, ne_eqb, and_parts, cases_Bool, cases_eq, leb-true, ltb-true, le-leb, lt-ltb, le-ltb, true≢false}
-use Rattle.life_limits.specs.declared.TheConstants.{BLOCK_SECTORS, CHUNK_INODES, FIRST_DATA_BLOCK, MAX_CHUNKS}
+use Rattle.std.proofs.lemmas.Bool.{eqb-true, eq-eqb, ne_eqb, and_parts, cases_eq, leb-true, ltb-true, le-leb, lt-ltb, true≢false}
+use Rattle.life_limits.specs.declared.TheConstants.{BLOCK_SECTORS, CHUNK_INODES, FIRST_DATA_BLOCK}
 use Rattle.life_table.specs.declared.table.Inode.{Inode}
 use Rattle.life_table.specs.declared.table.Chunk.{Chunk}
 use Rattle.life_table.specs.Table.{Group, inode_in, set_inode, start_of}
-use Rattle.life_table.specs.Space.{times, chunk_blocks, chunk_length, row_blocks, inode_blocks, used, is_free_block, free_blocks, new_chunk, insert_chunk}
+use Rattle.life_table.specs.Space.{times, chunk_blocks, row_blocks, inode_blocks, used, is_free_block, free_blocks, new_chunk, insert_chunk}
 
 pub times-nil : (b : ℕ) → times b [] ≡ 0
 unfolding times

@@ -1,29 +1,28 @@
 -- Recovery frees each row without links once.
-use Rattle.std.proofs.Common.{◌≡◌, ◌≢◌, ◌==◌, ◌+◌, ◌*◌, ◌/◌, ◌%◌, ◌<◌, ◌≤◌, ◌⊎◌, ℕ, zero, suc, Bool, true, false, List, [], ◌∷◌, ◌++◌, Option, None, Some, IfSome, IsSomeAnd, option_map, if◌then◌else◌, map, length, slice_get, slice_set, slice_index_or, refl, sym, ap, subst, ◌∙◌, inl, inr, arith}
+use Rattle.std.proofs.Common.{◌≡◌, ◌==◌, ◌+◌, ◌*◌, ◌/◌, ◌%◌, ◌<◌, ◌≤◌, ℕ, zero, suc, true, false, List, [], ◌∷◌, Option, None, Some, IfSome, IsSomeAnd, if◌then◌else◌, map, length, slice_get, slice_set, slice_index_or, refl, sym, ap, subst, ◌∙◌, inl, inr, arith}
 use Rattle.std.specs.List.{AllByRecursion}
 use Rattle.std.proofs.lemmas.Option.{none-some, same_Some, slice_get_within}
 use Rattle.std.proofs.lemmas.List.{length-map}
-use Rattle.std.proofs.lemmas.Bool.{eqb-true, eq-eqb, cases_lt, true≢false}
-use Rattle.life_limits.specs.declared.TheConstants.{CHUNK_INODES, GROUP_NUMBERS, MAX_BLOCKS, MAX_CHUNKS, MAX_GENERATION}
+use Rattle.std.proofs.lemmas.Bool.{eqb-true, eq-eqb, cases_lt}
+use Rattle.life_limits.specs.declared.TheConstants.{CHUNK_INODES, GROUP_NUMBERS, MAX_CHUNKS, MAX_GENERATION}
 use Rattle.life_table.specs.declared.key.Key.{Key}
 use Rattle.life_table.specs.declared.types.Row.{Row}
-use Rattle.life_table.specs.declared.types.Entry.{Entry}
 use Rattle.life_table.specs.declared.types.Event.TheVariants.{Freed}
 use Rattle.life_table.specs.declared.table.Inode.{Inode}
 use Rattle.life_table.specs.declared.table.Chunk.{Chunk}
 use Rattle.life_table.specs.declared.table.Table.{Table}
-use Rattle.life_table.specs.Table.{Group, start_of, group_number, group_of, with_group, inode_in, inode_of, row_in_life, row_of, with_inode, set_inode, map_chunk, map_group, map_inodes}
+use Rattle.life_table.specs.Table.{Group, start_of, group_of, inode_in, inode_of, row_in_life, row_of, with_inode, set_inode, map_chunk, map_group, map_inodes}
 use Rattle.life_table.specs.Space.{times, chunk_blocks, row_blocks, inode_blocks, used}
 use Rattle.life_table.specs.Legal.{Awaits, freed, Frees}
-use Rattle.life_table.specs.History.{Happens, Leads, closed_row, closed_inode, closed, recovered_as, recovered_inode, recovered, orphans_of, orphans_in, orphans_among, orphans_all, orphans, frees_of}
+use Rattle.life_table.specs.History.{Leads, closed_row, closed_inode, closed, recovered_as, recovered_inode, recovered, orphans_of, orphans_in, orphans_among, orphans_all, orphans, frees_of}
 use Rattle.life_table.specs.WellFormed.{IsRow, IsInode, IsChunk, IsGroup, IsTable, Ascends}
-use Rattle.life_table.proofs.Counts.{times-append, times-nil, times-used_cons, times-used_nil}
+use Rattle.life_table.proofs.Counts.{times-append, times-nil, times-used_cons}
 use Rattle.life_table.proofs.Closed.{row_of-closed}
 use Rattle.life_table.proofs.Groups.{AllByRecursion-get}
 use Rattle.life_table.proofs.Keys.{inode_in-at, within_group}
 use Rattle.life_table.proofs.Lookups.{has_group}
 use Rattle.life_table.proofs.Mapped.{with_inode-map}
-use Rattle.life_table.proofs.Moves.{HasRow, HasRow-from}
+use Rattle.life_table.proofs.Moves.{HasRow-from}
 use Rattle.life_table.proofs.Recovery.{recovered-frees, by_links}
 use Rattle.life_table.proofs.Tables.{IsGroup-group_of}
 use Rattle.life_table.proofs.WellKept.{IsTable-happens}

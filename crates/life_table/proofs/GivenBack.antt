@@ -1,8 +1,8 @@
 -- Which blocks come to be free.
-use Rattle.std.proofs.Common.{◌≡◌, ◌≢◌, ◌==◌, ◌+◌, ◌-◌, ◌*◌, ◌/◌, ◌%◌, ◌<◌, ◌≤◌, ◌⊎◌, ℕ, zero, suc, Bool, true, false, List, [], ◌∷◌, ◌++◌, Option, None, Some, IsSomeAnd, is_some, if◌then◌else◌, length, take, drop, slice_index_or, slice_set, refl, sym, ap, subst, ◌∙◌, inl, inr, arith}
+use Rattle.std.proofs.Common.{◌≡◌, ◌≢◌, ◌+◌, ◌-◌, ◌/◌, ◌%◌, ◌<◌, ◌≤◌, ℕ, zero, suc, true, false, List, [], ◌∷◌, Option, None, Some, is_some, if◌then◌else◌, length, take, drop, refl, sym, ap, subst, ◌∙◌, inl, inr, arith}
 use Rattle.std.proofs.lemmas.Option.{none-some, same_Some}
 use Rattle.std.proofs.lemmas.Bool.{cases_Bool, cases_eq, cases_lt, true≢false}
-use Rattle.life_limits.specs.declared.TheConstants.{FIRST_DATA_BLOCK, GROUP_NUMBERS}
+use Rattle.life_limits.specs.declared.TheConstants.{GROUP_NUMBERS}
 use Rattle.life_table.specs.declared.key.Key.{Key}
 use Rattle.life_table.specs.declared.types.Row.{Row}
 use Rattle.life_table.specs.declared.types.Call.{Call}
@@ -10,17 +10,16 @@ use Rattle.life_table.specs.declared.types.Call.TheVariants as call
 use Rattle.life_table.specs.declared.types.Reply.{Reply}
 use Rattle.life_table.specs.declared.types.Reply.TheVariants as reply
 use Rattle.life_table.specs.declared.table.Inode.{Inode}
-use Rattle.life_table.specs.declared.table.Chunk.{Chunk}
 use Rattle.life_table.specs.declared.table.Table.{Table}
-use Rattle.life_table.specs.Table.{Group, group_number, group_of, with_group, inode_in, inode_of, row_of, with_row, in_use, with_inode, set_inode}
-use Rattle.life_table.specs.Space.{times, chunk_blocks, inode_blocks, row_blocks, used, is_free_block, free_blocks, lowest_key, chunk_place, new_chunk, insert_chunk, with_chunk, prepared}
-use Rattle.life_table.specs.Legal.{Awaits, free_in, free_of, grown_blocks, cut_blocks, last_blocks, prepare, IsNextKey, KeyReplies, Permits, Legal, made_row, row_after, with_changed, after_call, freed, Frees, IsNoCut}
+use Rattle.life_table.specs.Table.{Group, group_number, group_of, inode_of, row_of, with_row, in_use, with_inode, set_inode}
+use Rattle.life_table.specs.Space.{times, row_blocks, used, is_free_block, free_blocks, lowest_key, chunk_place, new_chunk, with_chunk, prepared}
+use Rattle.life_table.specs.Legal.{free_in, free_of, last_blocks, prepare, IsNextKey, Permits, Legal, made_row, row_after, with_changed, after_call, freed, Frees, IsNoCut}
 use Rattle.life_table.specs.WellFormed.{IsGroup, IsTable, IsDataBlock}
 use Rattle.life_table.proofs.Counts.{times-nil, times-append, times-free, times-not_free, times-set_inode, times-insert_chunk, is_free_block-parts, is_free_block-from}
-use Rattle.life_table.proofs.Lookups.{group_of-with_same, group_of-with_other, has_group, group_of-with}
-use Rattle.life_table.proofs.Moves.{HasRow, HasRow-from}
+use Rattle.life_table.proofs.Lookups.{group_of-with_same, group_of-with_other, has_group}
+use Rattle.life_table.proofs.Moves.{HasRow-from}
 use Rattle.life_table.proofs.Tables.{IsGroup-group_of}
-use Rattle.life_table.proofs.WellKept.{IsPrepared, IsPrepared-next}
+use Rattle.life_table.proofs.WellKept.{IsPrepared-next}
 
 -- how often a block stands among the free ones, by how often it is used
 record CountsFree (blocks : ℕ) (group : Group) (b : ℕ) : Type 0 where

@@ -1,18 +1,17 @@
 -- A group stays well formed: one inode is changed, or a chunk is added.
-use Rattle.std.proofs.Common.{◌≡◌, ◌≢◌, ◌==◌, ◌+◌, ◌-◌, ◌*◌, ◌/◌, ◌%◌, ◌<◌, ◌≤◌, ◌&&◌, ◌⊎◌, ℕ, zero, suc, Bool, true, false, cond, List, [], ◌∷◌, ◌++◌, Option, None, Some, IfSome, IsSome, is_some, if◌then◌else◌, nat_le, nat_lt, length, find, slice_get, slice_set, slice_index_or, replicate, refl, sym, ap, subst, ◌∙◌, inl, inr, arith, length-set}
+use Rattle.std.proofs.Common.{◌≡◌, ◌≢◌, ◌==◌, ◌+◌, ◌*◌, ◌/◌, ◌%◌, ◌<◌, ◌≤◌, ◌⊎◌, ℕ, zero, suc, Bool, true, false, List, [], ◌∷◌, Option, None, Some, if◌then◌else◌, nat_lt, length, find, slice_get, slice_set, replicate, refl, sym, ap, subst, ◌∙◌, inl, inr, arith, length-set}
 use Rattle.std.specs.List.{AllByRecursion, list_all, range_with_len}
 use Rattle.std.proofs.lemmas.List.{length-replicate}
 use Rattle.std.proofs.lemmas.Option.{none-some, same_Some}
-use Rattle.std.proofs.lemmas.Bool.{eqb-true, eqb-false, eq-eqb, ne_eqb, and_parts, cases_Bool, cases_eq, cases_lt, ltb-true, ltb-false}
-use Rattle.life_limits.specs.declared.TheConstants.{BLOCK_SECTORS, CHUNK_INODES, FIRST_DATA_BLOCK, GROUP_NUMBERS, MAX_CHUNKS, MAX_GENERATION}
+use Rattle.std.proofs.lemmas.Bool.{eqb-true, and_parts, cases_eq, cases_lt, ltb-true, ltb-false}
+use Rattle.life_limits.specs.declared.TheConstants.{BLOCK_SECTORS, CHUNK_INODES, MAX_CHUNKS}
 use Rattle.life_table.specs.declared.types.Row.{Row}
 use Rattle.life_table.specs.declared.table.Inode.{Inode}
 use Rattle.life_table.specs.declared.table.Chunk.{Chunk}
-use Rattle.life_table.specs.declared.table.Table.{Table}
 use Rattle.life_table.specs.Table.{Group, inode_in, set_inode, start_of}
-use Rattle.life_table.specs.Space.{times, chunk_blocks, row_blocks, inode_blocks, used, is_free_block, free_blocks, begins_run, chunk_place, new_chunk, insert_chunk}
-use Rattle.life_table.specs.WellFormed.{IsRow, IsInode, IsChunk, IsGroup, IsDataBlock, Ascends}
-use Rattle.life_table.proofs.Counts.{times-set_inode, times-insert_chunk, times-used_cons, times-used_nil, times-new_chunk, times-chunk, times-chunk_outside, is_free_block-parts}
+use Rattle.life_table.specs.Space.{times, chunk_blocks, row_blocks, used, is_free_block, begins_run, chunk_place, new_chunk, insert_chunk}
+use Rattle.life_table.specs.WellFormed.{IsInode, IsChunk, IsGroup, Ascends}
+use Rattle.life_table.proofs.Counts.{times-set_inode, times-insert_chunk, times-used_cons, times-new_chunk, times-chunk, times-chunk_outside, is_free_block-parts}
 use Rattle.life_table.proofs.Lookups.{IsAbsent}
 
 -- of each element, after one was changed to one of which it holds

@@ -1,14 +1,13 @@
 -- The key that a create gives is that of a free inode.
-use Rattle.std.proofs.Common.{◌≡◌, ◌≢◌, ◌==◌, ◌+◌, ◌-◌, ◌*◌, ◌/◌, ◌%◌, ◌<◌, ◌≤◌, ◌&&◌, ◌⊎◌, ℕ, zero, suc, Bool, true, false, cond, List, [], ◌∷◌, ◌++◌, Option, None, Some, is_some, is_none, if◌then◌else◌, nat_lt, length, slice_get, replicate, refl, sym, ap, subst, ◌∙◌, inl, inr, arith}
-use Rattle.std.specs.List.{AllByRecursion}
+use Rattle.std.proofs.Common.{◌≡◌, ◌==◌, ◌+◌, ◌*◌, ◌/◌, ◌%◌, ◌<◌, ◌≤◌, ◌⊎◌, ℕ, zero, suc, true, false, List, [], ◌∷◌, ◌++◌, Option, None, Some, is_some, is_none, if◌then◌else◌, nat_lt, length, slice_get, refl, sym, ap, ◌∙◌, inl, inr, arith}
 use Rattle.std.proofs.lemmas.Option.{none-some, same_Some, slice_get_within}
-use Rattle.std.proofs.lemmas.Bool.{eqb-true, eqb-false, eq-eqb, ne_eqb, and_parts, cases_Bool, cases_eq, cases_lt, ltb-true, ltb-false, true≢false, false≢true}
+use Rattle.std.proofs.lemmas.Bool.{eq-eqb, ne_eqb, and_parts, ltb-true, false≢true}
 use Rattle.life_limits.specs.declared.TheConstants.{BLOCK_SECTORS, CHUNK_INODES, GROUP_NUMBERS, MAX_BLOCKS, MAX_GENERATION}
 use Rattle.life_table.specs.declared.key.Key.{Key}
 use Rattle.life_table.specs.declared.table.Inode.{Inode}
 use Rattle.life_table.specs.declared.table.Chunk.{Chunk}
 use Rattle.life_table.specs.Table.{Group, inode_in, start_of}
-use Rattle.life_table.specs.Space.{times, chunk_blocks, used, is_free, keys_from, free_keys, lowest_key, chunk_place, new_chunk, insert_chunk, with_chunk, prepared}
+use Rattle.life_table.specs.Space.{times, chunk_blocks, used, is_free, keys_from, free_keys, lowest_key, chunk_place, with_chunk, prepared}
 use Rattle.life_table.specs.WellFormed.{IsChunk, IsGroup, Ascends}
 use Rattle.life_table.proofs.Counts.{times-used_cons, times-chunk}
 use Rattle.life_table.proofs.Groups.{AllByRecursion-get, IsPlace-chunk_place, IsGroup-insert_chunk}

@@ -1,24 +1,21 @@
 -- The lives of an inode follow each other: its generation never falls, and rises where a row ends.
-use Rattle.std.proofs.Common.{◌≡◌, ◌≢◌, ◌==◌, ◌+◌, ◌*◌, ◌/◌, ◌%◌, ◌<◌, ◌≤◌, ◌⊎◌, ℕ, zero, suc, Bool, true, false, List, [], ◌∷◌, Option, None, Some, IsSome, is_some, is_none, if◌then◌else◌, length, slice_get, refl, sym, ap, subst, ◌∙◌, inl, inr, arith}
+use Rattle.std.proofs.Common.{◌≡◌, ◌==◌, ◌+◌, ◌/◌, ◌%◌, ◌<◌, ◌⊎◌, ℕ, true, false, List, [], ◌∷◌, Option, None, Some, IsSome, is_some, if◌then◌else◌, length, slice_get, refl, sym, ap, subst, ◌∙◌, inl, inr, arith}
 use Rattle.std.proofs.lemmas.Option.{none-some, same_Some}
-use Rattle.std.proofs.lemmas.Bool.{cases_Bool, cases_eq, cases_lt, eqb-true, eqb-false, eq-eqb, ne_eqb, true≢false, false≢true}
-use Rattle.life_limits.specs.declared.TheConstants.{BLOCK_SECTORS, CHUNK_INODES, GROUP_NUMBERS}
+use Rattle.std.proofs.lemmas.Bool.{cases_eq, eq-eqb, ne_eqb, true≢false, false≢true}
+use Rattle.life_limits.specs.declared.TheConstants.{CHUNK_INODES, GROUP_NUMBERS}
 use Rattle.life_table.specs.declared.key.Key.{Key}
-use Rattle.life_table.specs.declared.types.Row.{Row}
 use Rattle.life_table.specs.declared.types.Entry.{Entry}
-use Rattle.life_table.specs.declared.types.Event.{Event}
 use Rattle.life_table.specs.declared.table.Inode.{Inode}
-use Rattle.life_table.specs.declared.table.Chunk.{Chunk}
 use Rattle.life_table.specs.declared.table.Table.{Table}
-use Rattle.life_table.specs.Table.{Group, start_of, group_number, group_of, with_group, inode_in, inode_of, row_in_life, row_of, with_row, in_use, with_inode}
-use Rattle.life_table.specs.Space.{lowest_key, chunk_place, new_chunk, insert_chunk, with_chunk, prepared}
-use Rattle.life_table.specs.Legal.{prepare, made_row, freed}
-use Rattle.life_table.specs.History.{Happens, Leads}
+use Rattle.life_table.specs.Table.{Group, start_of, group_of, inode_in, inode_of, row_in_life, row_of, in_use, with_inode}
+use Rattle.life_table.specs.Space.{lowest_key, chunk_place, new_chunk, with_chunk, prepared}
+use Rattle.life_table.specs.Legal.{prepare, made_row}
+use Rattle.life_table.specs.History.{Leads}
 use Rattle.life_table.specs.WellFormed.{IsTable}
 use Rattle.life_table.proofs.Groups.{IsPlace-chunk_place, IsAbsent-place}
 use Rattle.life_table.proofs.Lookups.{IsAbsent, inode_in-insert_chunk, inode_of-with_same, inode_of-with_other, group_of-with_same, group_of-with_other, has_group}
-use Rattle.life_table.proofs.Moves.{Move, Stays, Turns, Makes, Ends, Changes, HasRow, HasRow-from, move_event}
-use Rattle.life_table.proofs.WellKept.{IsPrepared, IsPrepared-next, IsTable-happens, IsTable-leads}
+use Rattle.life_table.proofs.Moves.{Move, Stays, Turns, Makes, Ends, HasRow-from, move_event}
+use Rattle.life_table.proofs.WellKept.{IsPrepared-next, IsTable-happens, IsTable-leads}
 
 -- a number has no inode in a group that has no chunk at its start
 none_absent : (group : Group) (agino start : ℕ) → start ≡ start_of agino → IsAbsent start group → inode_in group agino ≡ None

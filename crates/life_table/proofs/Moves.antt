@@ -1,8 +1,8 @@
 -- The ways in which a legal event changes a table. Each law goes by these few cases.
-use Rattle.std.proofs.Common.{◌≡◌, ◌≢◌, ◌==◌, ◌+◌, ◌-◌, ◌*◌, ◌/◌, ◌%◌, ◌<◌, ◌≤◌, ◌⊎◌, ℕ, zero, suc, Bool, true, false, List, [], ◌∷◌, ◌++◌, Option, None, Some, IsSomeAnd, if◌then◌else◌, length, take, drop, refl, sym, ap, subst, ◌∙◌, inl, inr, arith}
-use Rattle.std.proofs.lemmas.Option.{none-some, same_Some}
+use Rattle.std.proofs.Common.{◌≡◌, ◌≢◌, ◌==◌, ◌+◌, ◌-◌, ◌≤◌, ◌⊎◌, ℕ, zero, suc, true, false, List, [], ◌∷◌, Option, None, Some, IsSomeAnd, if◌then◌else◌, length, take, refl, sym, subst, inl, inr, arith}
+use Rattle.std.proofs.lemmas.Option.{none-some}
 use Rattle.std.proofs.lemmas.Bool.{eqb-true, cases_lt}
-use Rattle.life_limits.specs.declared.TheConstants.{MAX_EXTENTS, MAX_LINKS, MAX_PINS}
+use Rattle.life_limits.specs.declared.TheConstants.{MAX_LINKS, MAX_PINS}
 use Rattle.extent_fork.specs.declared.extent.Extent.{Extent}
 use Rattle.extent_fork.specs.Runs.{runs, runs_from, single, grown, end_of}
 use Rattle.life_table.specs.declared.key.Key.{Key}
@@ -13,9 +13,9 @@ use Rattle.life_table.specs.declared.types.Reply.{Reply}
 use Rattle.life_table.specs.declared.types.Reply.TheVariants as reply
 use Rattle.life_table.specs.declared.table.Inode.{Inode}
 use Rattle.life_table.specs.declared.table.Table.{Table}
-use Rattle.life_table.specs.Table.{group_number, group_of, inode_of, row_in_life, row_of, with_row}
+use Rattle.life_table.specs.Table.{row_in_life, row_of, with_row}
 use Rattle.life_table.specs.Space.{times}
-use Rattle.life_table.specs.Legal.{Awaits, free_of, Short, grown_blocks, cut_blocks, prepare, IsNextKey, KeyReplies, RowReplies, made_row, row_after, with_changed, after_call, Permits, Legal, freed, Frees}
+use Rattle.life_table.specs.Legal.{Awaits, free_of, cut_blocks, prepare, IsNextKey, KeyReplies, made_row, row_after, with_changed, after_call, Permits, Legal, freed, Frees}
 use Rattle.life_table.specs.declared.types.Event.{Event}
 use Rattle.life_table.specs.declared.types.Event.TheVariants.{Called, Freed}
 use Rattle.life_table.specs.History.{Happens}

@@ -1,16 +1,16 @@
 -- What recovery leaves.
-use Rattle.std.proofs.Common.{◌≡◌, ◌≢◌, ◌==◌, ◌+◌, ◌<◌, ◌≤◌, ℕ, zero, suc, Bool, true, false, List, [], ◌∷◌, Option, None, Some, IsSomeAnd, option_map, if◌then◌else◌, refl, sym, ap, subst, ◌∙◌, inl, inr, arith}
+use Rattle.std.proofs.Common.{◌≡◌, ◌≢◌, ◌==◌, ◌+◌, ◌≤◌, ℕ, Bool, true, false, Option, None, Some, IsSomeAnd, option_map, if◌then◌else◌, refl, sym, ap, ◌∙◌, inl, inr, arith}
 use Rattle.std.proofs.lemmas.Option.{none-some, same_Some}
-use Rattle.std.proofs.lemmas.Bool.{eqb-true, eqb-false, eq-eqb, true≢false, cases_lt}
+use Rattle.std.proofs.lemmas.Bool.{eqb-false, eq-eqb, cases_lt}
 use Rattle.life_table.specs.declared.key.Key.{Key}
 use Rattle.life_table.specs.declared.types.Row.{Row}
 use Rattle.life_table.specs.declared.table.Inode.{Inode}
 use Rattle.life_table.specs.declared.table.Table.{Table}
-use Rattle.life_table.specs.Table.{inode_of, row_of, with_inode, map_inodes}
+use Rattle.life_table.specs.Table.{inode_of, row_of}
 use Rattle.life_table.specs.Legal.{Awaits, freed, Frees}
 use Rattle.life_table.specs.History.{recovered_as, recovered_inode, recovered}
 use Rattle.life_table.proofs.Mapped.{inode_of-map, with_inode-map, with_inode-itself, map_inodes-twice}
-use Rattle.life_table.proofs.Moves.{HasRow, HasRow-from}
+use Rattle.life_table.proofs.Moves.{HasRow-from}
 
 -- a second recovery changes nothing
 as_twice : (generation : ℕ) (o : Option Row) → recovered_inode (recovered_as generation o) ≡ recovered_as generation o

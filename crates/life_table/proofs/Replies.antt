@@ -1,8 +1,8 @@
 -- Each call that the table answers has one reply.
-use Rattle.std.proofs.Common.{◌≡◌, ◌≢◌, ◌==◌, ◌+◌, ◌*◌, ◌<◌, ◌≤◌, ◌&&◌, ◌⊎◌, ℕ, zero, suc, Bool, true, false, cond, List, [], ◌∷◌, ◌++◌, Option, None, Some, is_some, if◌then◌else◌, nat_lt, length, slice_get, replicate, refl, sym, ap, subst, ◌∙◌, inl, inr, arith, length-append}
-use Rattle.std.proofs.lemmas.Option.{none-some, same_Some}
-use Rattle.std.proofs.lemmas.Bool.{cases_Bool, cases_eq, cases_lt, eqb-true, eqb-false, eq-eqb, ne_eqb, and_from, and_right, and_parts, lt-ltb, le-ltb, ltb-true, ltb-false, true≢false, false≢true}
-use Rattle.life_limits.specs.declared.TheConstants.{CHUNK_INODES, GROUP_NUMBERS, MAX_EXTENTS, MAX_LINKS, MAX_PINS}
+use Rattle.std.proofs.Common.{◌≡◌, ◌==◌, ◌+◌, ◌*◌, ◌<◌, ◌≤◌, ◌&&◌, ℕ, suc, true, false, List, [], ◌∷◌, Option, None, Some, is_some, if◌then◌else◌, nat_lt, length, slice_get, replicate, refl, sym, ap, ◌∙◌, inl, inr, arith, length-append}
+use Rattle.std.proofs.lemmas.Option.{none-some}
+use Rattle.std.proofs.lemmas.Bool.{cases_Bool, cases_lt, eqb-true, eqb-false, eq-eqb, ne_eqb, and_from, and_right, and_parts, lt-ltb, le-ltb, ltb-true, ltb-false, true≢false}
+use Rattle.life_limits.specs.declared.TheConstants.{GROUP_NUMBERS, MAX_EXTENTS, MAX_LINKS, MAX_PINS}
 use Rattle.extent_fork.specs.Runs.{runs}
 use Rattle.life_table.specs.declared.key.Key.{Key}
 use Rattle.life_table.specs.declared.types.Row.{Row}
@@ -10,13 +10,12 @@ use Rattle.life_table.specs.declared.types.Call.{Call}
 use Rattle.life_table.specs.declared.types.Call.TheVariants as call
 use Rattle.life_table.specs.declared.types.Reply.{Reply}
 use Rattle.life_table.specs.declared.types.Reply.TheVariants as reply
-use Rattle.life_table.specs.declared.table.Inode.{Inode}
 use Rattle.life_table.specs.declared.table.Chunk.{Chunk}
 use Rattle.life_table.specs.declared.table.Table.{Table}
 use Rattle.life_table.specs.Table.{Group, group_of, row_of}
 use Rattle.life_table.specs.Space.{keys_from, free_keys, lowest_key, chunk_place, new_chunk, insert_chunk, with_chunk, prepared}
 use Rattle.life_table.specs.Replies.{row_reply, key_reply, create_reply, reply_of}
-use Rattle.life_table.specs.Legal.{Awaits, free_of, grown_blocks, HasNoNumber, IsNextKey, RowReplies, KeyReplies, Permits, Legal, after_call, IsOfTable, IsOpen, CanMake}
+use Rattle.life_table.specs.Legal.{free_of, grown_blocks, RowReplies, KeyReplies, Permits, Legal, after_call, IsOfTable, IsOpen, CanMake}
 
 not_less : (a b : ℕ) → (a < b → ⊥) → nat_lt a b ≡ false
 not_less a b not = elim (cases_lt a b) [ inl less ↦ absurd (not less) | inr high ↦ le-ltb a b high ]

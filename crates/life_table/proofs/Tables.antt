@@ -1,12 +1,11 @@
 -- A table stays well formed: a group is changed, one inode is, or all are.
-use Rattle.std.proofs.Common.{◌≡◌, ◌≢◌, ◌+◌, ◌*◌, ◌/◌, ◌%◌, ◌<◌, ◌≤◌, ◌⊎◌, ℕ, zero, suc, List, [], ◌∷◌, Option, None, Some, length, slice_get, slice_set, slice_index_or, refl, sym, ap, subst, ◌∙◌, inl, inr, arith, length-set}
+use Rattle.std.proofs.Common.{◌≡◌, ◌/◌, ◌%◌, ◌≤◌, ℕ, zero, suc, List, [], ◌∷◌, Some, length, slice_set, slice_index_or, replicate, refl, arith, length-set}
 use Rattle.std.specs.List.{AllByRecursion}
-use Rattle.life_limits.specs.declared.TheConstants.{GROUP_NUMBERS, MAX_GROUPS}
+use Rattle.life_limits.specs.declared.TheConstants.{GROUP_NUMBERS, MAX_BLOCKS, MAX_GROUPS, MIN_BLOCKS, VERSION}
 use Rattle.life_table.specs.declared.table.Inode.{Inode}
-use Rattle.life_table.specs.declared.table.Chunk.{Chunk}
 use Rattle.life_table.specs.declared.table.Table.{Table}
-use Rattle.life_table.specs.Table.{Group, group_of, with_group, inode_of, with_inode}
-use Rattle.life_table.specs.Space.{times, used}
+use Rattle.std.proofs.lemmas.List.{length-replicate}
+use Rattle.life_table.specs.Table.{empty_table, Group, group_of, with_group, inode_of, with_inode}
 use Rattle.life_table.specs.Legal.{prepare}
 use Rattle.life_table.specs.WellFormed.{IsInode, IsGroup, IsTable}
 use Rattle.life_table.proofs.Counts.{times-used_nil}
@@ -58,3 +57,16 @@ IsInode-of t number inode ok at =
 
 pub IsTable-prepare : (t : Table) (g : ℕ) → IsTable t → IsTable (prepare t g)
 IsTable-prepare t g ok = IsTable-with_group t g _ ok (IsGroup-prepared t.blocks g (group_of t g) (IsGroup-group_of t g ok))
+
+-- a table without chunks
+empty_groups : (blocks n : ℕ) → AllByRecursion (IsGroup blocks) (replicate n [])
+empty_groups blocks zero = tt
+empty_groups blocks (suc n) = (IsGroup-nil blocks, empty_groups blocks n)
+
+abbrev no_chunks : ℕ → Group
+no_chunks n = []
+
+pub IsTable-empty : (groups blocks : ℕ) → 1 ≤ groups → groups ≤ MAX_GROUPS → MIN_BLOCKS ≤ blocks → blocks ≤ MAX_BLOCKS → IsTable (empty_table VERSION groups blocks)
+IsTable-empty groups blocks some many least most =
+    let long : length (replicate groups (no_chunks groups)) ≡ groups = length-replicate groups (no_chunks groups) in
+    record { version = refl; least = least; most = most; some = omega (arith, long); many = omega (arith, long); groups = empty_groups blocks groups }

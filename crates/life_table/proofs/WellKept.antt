@@ -1,5 +1,5 @@
 -- What happens to a well formed table leaves a well formed one.
-use Rattle.std.proofs.Common.{◌≡◌, ◌≢◌, ◌==◌, ◌+◌, ◌*◌, ◌/◌, ◌%◌, ◌<◌, ◌≤◌, ◌⊎◌, ℕ, zero, suc, Bool, true, false, List, [], ◌∷◌, Option, None, Some, IfSome, length, refl, sym, ap, subst, ◌∙◌, inl, inr, arith}
+use Rattle.std.proofs.Common.{◌≡◌, ◌+◌, ◌/◌, ◌%◌, ◌<◌, ◌≤◌, ℕ, true, List, [], ◌∷◌, Option, None, Some, IfSome, length, sym, ap, subst, ◌∙◌, inl, inr, arith}
 use Rattle.std.specs.List.{AllByRecursion}
 use Rattle.std.proofs.lemmas.Bool.{cases_Bool}
 use Rattle.life_limits.specs.declared.TheConstants.{GROUP_NUMBERS, MAX_GENERATION}
@@ -9,16 +9,16 @@ use Rattle.life_table.specs.declared.types.Entry.{Entry}
 use Rattle.life_table.specs.declared.types.Event.{Event}
 use Rattle.life_table.specs.declared.table.Inode.{Inode}
 use Rattle.life_table.specs.declared.table.Table.{Table}
-use Rattle.life_table.specs.Table.{Group, group_number, group_of, inode_in, inode_of, row_of, with_row, in_use, with_inode}
-use Rattle.life_table.specs.Space.{times, used, row_blocks, free_blocks, is_free_block, prepared}
-use Rattle.life_table.specs.Legal.{Awaits, free_of, prepare, IsNextKey, made_row, freed}
+use Rattle.life_table.specs.Table.{group_number, group_of, inode_in, inode_of, row_of, in_use}
+use Rattle.life_table.specs.Space.{times, used, row_blocks, is_free_block, prepared}
+use Rattle.life_table.specs.Legal.{prepare, IsNextKey, made_row}
 use Rattle.life_table.specs.History.{Happens, Leads}
-use Rattle.life_table.specs.WellFormed.{IsRow, IsInode, IsGroup, IsTable, IsDataBlock}
+use Rattle.life_table.specs.WellFormed.{IsRow, IsTable, IsDataBlock}
 use Rattle.life_table.proofs.Counts.{times-free, times-not_free, times-nil, times-set_inode, is_free_block-parts, all-by_times, length-once}
-use Rattle.life_table.proofs.Groups.{TakesOnlyFree, AllByRecursion-weaker}
-use Rattle.life_table.proofs.Keys.{IsFreeAt, IsFreeAt-lowest, IsGroup-prepared}
+use Rattle.life_table.proofs.Groups.{AllByRecursion-weaker}
+use Rattle.life_table.proofs.Keys.{IsFreeAt-lowest, IsGroup-prepared}
 use Rattle.life_table.proofs.Lookups.{group_of-with_same}
-use Rattle.life_table.proofs.Moves.{Move, Stays, Turns, Makes, Ends, Changes, HasRow, HasRow-from, move_event}
+use Rattle.life_table.proofs.Moves.{Move, Stays, Turns, Makes, Ends, HasRow, HasRow-from, move_event}
 use Rattle.life_table.proofs.Tables.{IsTable-with_inode, IsTable-prepare, IsInode-of, IsGroup-group_of}
 
 -- the inode that a create makes live, in the table with its chunk

@@ -1,5 +1,5 @@
 -- The text of a handle.
-use Rattle.std.specs.Prelude.{◌≡◌, ◌<◌, ◌≤◌, ℕ, List, ◌∷◌, ◌++◌}
+use Rattle.std.specs.Prelude.{◌<◌, ◌≤◌, ℕ, List, ◌∷◌, ◌++◌}
 use Rattle.std.specs.Fmt.{decimal}
 use Rattle.life_limits.specs.declared.TheConstants.{MAX_GENERATION, MAX_NUMBERS}
 use Rattle.life_table.specs.declared.key.Key.{Key}

@@ -1,7 +1,6 @@
 -- Which reply a call may have at a table, and the table after it.
-use Rattle.std.specs.Prelude.{◌≡◌, ◌≢◌, ◌+◌, ◌-◌, ◌<◌, ◌≤◌, ⊤, ℕ, List, [], ◌++◌, Option, None, Some, IsSomeAnd, IfSome, length, take, drop}
+use Rattle.std.specs.Prelude.{◌≡◌, ◌≢◌, ◌+◌, ◌-◌, ◌<◌, ◌≤◌, ⊤, ℕ, List, [], ◌++◌, Option, None, Some, IsSomeAnd, length, take, drop}
 use Rattle.life_limits.specs.declared.TheConstants.{MAX_EXTENTS, MAX_LINKS, MAX_PINS}
-use Rattle.extent_fork.specs.declared.extent.Extent.{Extent}
 use Rattle.extent_fork.specs.Runs.{runs}
 use Rattle.life_table.specs.declared.key.Key.{Key}
 use Rattle.life_table.specs.declared.types.Row.{Row}
@@ -9,10 +8,9 @@ use Rattle.life_table.specs.declared.types.Call.{Call}
 use Rattle.life_table.specs.declared.types.Call.TheVariants as call
 use Rattle.life_table.specs.declared.types.Reply.{Reply}
 use Rattle.life_table.specs.declared.types.Reply.TheVariants as reply
-use Rattle.life_table.specs.declared.table.Inode.{Inode}
 use Rattle.life_table.specs.declared.table.Table.{Table}
-use Rattle.life_table.specs.Table.{Group, group_number, group_of, with_group, inode_of, with_inode, row_of, with_row, in_use}
-use Rattle.life_table.specs.Space.{free_blocks, free_keys, lowest_key, chunk_place, prepared}
+use Rattle.life_table.specs.Table.{group_number, group_of, with_group, with_inode, row_of, with_row}
+use Rattle.life_table.specs.Space.{free_blocks, lowest_key, chunk_place, prepared}
 
 -- the row has neither a link nor a hold: it awaits being freed
 abbrev pub Awaits : Row → Type 0

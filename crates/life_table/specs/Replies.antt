@@ -1,5 +1,5 @@
 -- The one reply that a call has, computed. That it is the one that may come is a law.
-use Rattle.std.specs.Prelude.{◌==◌, ◌&&◌, ℕ, Option, None, Some, if◌then◌else◌, nat_lt, length}
+use Rattle.std.specs.Prelude.{◌==◌, ◌&&◌, Option, None, Some, if◌then◌else◌, nat_lt, length}
 use Rattle.life_limits.specs.declared.TheConstants.{MAX_EXTENTS, MAX_LINKS, MAX_PINS}
 use Rattle.extent_fork.specs.Runs.{runs}
 use Rattle.life_table.specs.declared.key.Key.{Key}

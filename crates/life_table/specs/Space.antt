@@ -1,5 +1,5 @@
 -- What is free: blocks, numbers of inodes, and places for chunks.
-use Rattle.std.specs.Prelude.{◌≡◌, ◌==◌, ◌+◌, ◌-◌, ◌*◌, ◌/◌, ◌%◌, ◌<◌, ◌≤◌, ◌&&◌, ℕ, Bool, List, [], ◌∷◌, ◌++◌, Option, None, Some, IsSome, IsSomeAnd, IsTrue, is_some, is_none, if◌then◌else◌, nat_le, nat_lt, length, replicate, slice_get}
+use Rattle.std.specs.Prelude.{◌==◌, ◌+◌, ◌*◌, ◌/◌, ◌%◌, ◌&&◌, ℕ, Bool, List, [], ◌∷◌, ◌++◌, Option, None, Some, IsSome, IsSomeAnd, IsTrue, is_some, is_none, if◌then◌else◌, nat_le, nat_lt, length, replicate, slice_get}
 use Rattle.std.specs.List.{filter, find, flat_map, list_all, range_with_len}
 use Rattle.life_limits.specs.declared.TheConstants.{BLOCK_SECTORS, CHUNK_INODES, FIRST_DATA_BLOCK, GROUP_NUMBERS, MAX_CHUNKS, MAX_GENERATION}
 use Rattle.life_table.specs.declared.key.Key.{Key}

@@ -3,8 +3,7 @@
 -- of the life that it is in or will be in next, and a row where it is in use; a chunk has the number of its first inode
 -- in the group, and its inodes in order; a table has the version of the image, the number of blocks of each group, and
 -- the groups (src/table.rt).
-use Rattle.std.specs.Prelude.{◌≡◌, ◌==◌, ◌+◌, ◌-◌, ◌*◌, ◌/◌, ◌%◌, ℕ, List, [], ◌∷◌, Option, None, Some, if◌then◌else◌, map, replicate, slice_get, slice_set, slice_index_or}
-use Rattle.std.specs.Option.{option_and_then}
+use Rattle.std.specs.Prelude.{◌==◌, ◌-◌, ◌/◌, ◌%◌, ℕ, List, [], ◌∷◌, Option, None, Some, if◌then◌else◌, map, replicate, slice_get, slice_set, slice_index_or}
 use Rattle.life_limits.specs.declared.TheConstants.{CHUNK_INODES, GROUP_NUMBERS}
 use Rattle.life_table.specs.declared.key.Key.{Key}
 use Rattle.life_table.specs.declared.types.Row.{Row}

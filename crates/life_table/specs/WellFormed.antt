@@ -1,5 +1,5 @@
 -- What makes a table well formed.
-use Rattle.std.specs.Prelude.{◌≡◌, ◌%◌, ◌<◌, ◌≤◌, ⊤, ℕ, List, [], ◌∷◌, IfSome, length}
+use Rattle.std.specs.Prelude.{◌≡◌, ◌%◌, ◌<◌, ◌≤◌, ⊤, ℕ, [], ◌∷◌, IfSome, length}
 use Rattle.std.specs.List.{AllByRecursion}
 use Rattle.life_limits.specs.declared.TheConstants.{CHUNK_INODES, FIRST_DATA_BLOCK, MAX_BLOCKS, MAX_CHUNKS, MAX_EXTENTS, MAX_GENERATION, MAX_GROUPS, MAX_LINKS, MAX_PINS, MIN_BLOCKS, VERSION}
 use Rattle.extent_fork.specs.Runs.{runs}

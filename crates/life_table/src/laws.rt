@@ -9,7 +9,8 @@ ghost use Rattle.life_table.specs.declared.types.Call.{Call};
 ghost use Rattle.life_table.specs.declared.types.Reply.{Reply};
 ghost use Rattle.life_table.specs.declared.types.Entry.{Entry};
 ghost use Rattle.life_table.specs.declared.table.Table.{Table};
-ghost use Rattle.life_table.specs.Table.{group_number, group_of, inode_of, row_of};
+ghost use Rattle.life_limits.specs.declared.TheConstants.{MAX_BLOCKS, MAX_GROUPS, MIN_BLOCKS, VERSION};
+ghost use Rattle.life_table.specs.Table.{empty_table, group_number, group_of, inode_of, row_of};
 ghost use Rattle.life_table.specs.Space.{times};
 ghost use Rattle.life_table.specs.Legal.{Legal, Permits, Frees, IsOfTable, CanMake, IsNoCut, free_in, free_of, last_blocks};
 ghost use Rattle.life_table.specs.Replies.{reply_of};
@@ -18,9 +19,10 @@ ghost use Rattle.life_table.specs.History.{Leads, After, changes, closed, recove
 
 use crate::types::{Call, Reply};
 
-/// A law: what legally happens to a well formed table leaves a well formed one. So no block comes to be in two rows,
+/// A law: a table without chunks is well formed, and what legally happens to a well formed table leaves a well formed one. So no block comes to be in two rows,
 /// in a row and a chunk, or twice in one, and no number comes to have two rows.
 pub fn tables_stay_well_formed()
+    ensures empty { (groups blocks : ℕ) → 1 ≤ groups → groups ≤ MAX_GROUPS → MIN_BLOCKS ≤ blocks → blocks ≤ MAX_BLOCKS → IsTable (empty_table VERSION groups blocks) }
     ensures call { (t u : Table) (called : Call) (answer : Reply) → IsTable t → Legal t called answer u → IsTable u }
     ensures free { (t u : Table) (key : Key) → IsTable t → Frees t key u → IsTable u }
     ensures history { (t u : Table) (entries : List Entry) → IsTable t → Leads t entries u → IsTable u }

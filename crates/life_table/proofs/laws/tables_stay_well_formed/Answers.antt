@@ -1,5 +1,6 @@
 use Rattle.life_table.specs.declared.types.Event.TheVariants.{Called, Freed}
 use Rattle.life_table.proofs.Frees.{IsTable-closed, IsTable-recovered}
+use Rattle.life_table.proofs.Tables.{IsTable-empty}
 use Rattle.life_table.proofs.WellKept.{IsTable-happens, IsTable-leads}
 use Rattle.life_table.proofs.laws.tables_stay_well_formed.Goals as goal
 
@@ -17,3 +18,6 @@ returns-clause-without_holds c = IsTable-closed
 
 pub returns-clause-recovery : goal.returns-clause-recovery
 returns-clause-recovery c = IsTable-recovered
+
+pub returns-clause-empty : goal.returns-clause-empty
+returns-clause-empty c = IsTable-empty
