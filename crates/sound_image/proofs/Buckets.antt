@@ -1,4 +1,4 @@
--- The unlinked buckets of an image that spells a table are its bucket layouts.
+-- The unlinked buckets of an image that spells a table are its bucket lists.
 use Rattle.std.proofs.Common.{◌≡◌, ◌≢◌, ◌<◌, ◌≤◌, ◌%◌, ℕ, zero, suc, true, cond, List, [], ◌∷◌, Option, Some, length, get_or, eqb, inl, inr, refl, ap, sym, subst, ◌∙◌, arith}
 use Rattle.std.specs.Prelude.{IsSomeAnd}
 use Rattle.std.specs.Option.{option_map, option_and_then}
@@ -162,7 +162,7 @@ pointers_right l g t layouts image group bucket r low =
       end = pointer_is l g t layouts image group bucket r low (length members) (omega arith) ∙ get_or_past members (length members) NO_INODE (omega arith);
     }
 
--- ---- the layouts are complete
+-- ---- the lists are complete
 
 met : (l : Lower) (g : Geometry) (t : Table) (layouts : Layouts) (image : List Sector) (group agino : ℕ) → IsReady g t layouts image group
     → is_unlinked (inode_in (group_of t group) agino) ≡ true → IsMet g (spelled g t layouts image) group agino

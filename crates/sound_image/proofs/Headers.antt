@@ -116,7 +116,7 @@ pub sector_more : (g : Geometry) (group place k : ℕ) → sector_in g group pla
 unfolding sector_in
 sector_more g group place k = omega arith
 
-page_is : (l : Lower) (g : Geometry) (t : Table) (layouts : Layouts) (image : List Sector) (group : ℕ) → IsReady g t layouts image group
+pub page_is : (l : Lower) (g : Geometry) (t : Table) (layouts : Layouts) (image : List Sector) (group : ℕ) → IsReady g t layouts image group
     → bytes_from (spelled g t layouts image) (sector_in g group (page_place layouts group)) 8 ≡ page_spelling (map record_of (group_of t group)) group (sector_in g group (page_place layouts group)) g.uuid
 unfolding page_bytes
 page_is l g t layouts image group r =

@@ -17,3 +17,4 @@ pub mod Spelled
 pub mod Layouts
 pub mod Again
 pub mod Opens
+pub mod Standing

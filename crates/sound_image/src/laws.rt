@@ -1,18 +1,28 @@
 // Laws of the definitions. Each is the contract of a function that does nothing but call the laws that its own rests on.
 
-ghost use Rattle.std.specs.Prelude.{◌≡◌, ◌≤◌, ◌<◌, ◌*◌, ◌/◌, ◌%◌, ℕ, List, None, length};
+ghost use Rattle.std.specs.Prelude.{◌≡◌, ◌≤◌, ◌<◌, ◌*◌, ◌/◌, ◌%◌, ◌+◌, ℕ, List, None, Some, length, map};
+ghost use Rattle.life_limits.specs.declared.TheConstants.{BLOCK_SECTORS, BUCKETS};
 ghost use Rattle.life_bytes.specs.declared.sector.Sector.{Sector};
 ghost use Rattle.geometry.specs.declared.shape.Geometry.{Geometry};
 ghost use Rattle.geometry.specs.Places.{group_sectors};
 ghost use Rattle.geometry.specs.Shape.{IsGeometry};
 ghost use Rattle.life_table.specs.declared.table.Table.{Table};
-ghost use Rattle.life_table.specs.Table.{group_of};
+ghost use Rattle.life_table.specs.Table.{group_of, inode_in};
+ghost use Rattle.inode_core.specs.Cores.{Spells};
+ghost use Rattle.extent_fork.specs.Forks.{HasFork};
+ghost use Rattle.extent_fork.specs.Runs.{runs};
+ghost use Rattle.ag_header.specs.Headers.{Spells as SpellsHeader};
+ghost use Rattle.inobt_leaf.specs.Chunks.{IsLeaf};
+ghost use Rattle.free_map.specs.Bitmap.{bitmap};
+ghost use Rattle.life_table.specs.declared.types.Row.{Row};
+ghost use Rattle.life_table.specs.declared.table.Inode.{Inode};
 ghost use Rattle.life_table.specs.History.{closed};
 ghost use Rattle.life_table.specs.WellFormed.{IsTable};
-ghost use Rattle.sound_image.specs.Places.{bytes_at, sector_in, AreSectors};
+ghost use Rattle.sound_image.specs.Places.{AreSectors, bitmap_place, bitmap_sectors, bytes_at, bytes_from, header_place, number_in, part, sector_in};
 ghost use Rattle.sound_image.specs.Reading.{rows_of};
 ghost use Rattle.sound_image.specs.Damage.{Rule, FirstDamage, IsSound};
-ghost use Rattle.sound_image.specs.Spelling.{Layouts, CanSpell, metadata, spelled};
+ghost use Rattle.sound_image.specs.Rules.{free_set};
+ghost use Rattle.sound_image.specs.Spelling.{Layouts, CanSpell, core_for, header_for, inode_sector, list_of, metadata, next_in, page_bytes, page_place, record_of, spelled};
 ghost use Rattle.sound_image.specs.Stands.{HasSuperblock, IsLongEnough, Stands};
 
 use ag_header::spelled_headers_are_read;
@@ -22,13 +32,43 @@ use geometry::superblocks_tell_geometries;
 use inobt_leaf::spelled_pages_are_read;
 use inode_core::spelled_cores_are_read;
 
-/// A law: what spells a well-formed table with the bucket layouts of its rows without links is sound, and the rows, chunks and generations read from
+/// A law: what spells a well-formed table with layouts of it, bucket lists of its rows without links among them, is sound, and the rows, chunks and generations read from
 /// it are the table's, with no opens. Where the sectors before had the superblock and were enough, it stands for that table.
 pub fn spelled_images_are_sound()
     ensures sound { (g : Geometry) (t : Table) (layouts : Layouts) (image : List Sector) → CanSpell g t layouts image → IsSound g (spelled g t layouts image) }
     ensures rows { (g : Geometry) (t : Table) (layouts : Layouts) (image : List Sector) → CanSpell g t layouts image → rows_of g (spelled g t layouts image) ≡ closed t }
     ensures stands { (g : Geometry) (t : Table) (layouts : Layouts) (image : List Sector) → CanSpell g t layouts image → HasSuperblock g image → IsLongEnough g image
         → Stands g (spelled g t layouts image) (closed t) }
+{
+    spelled_cores_are_read();
+    spelled_headers_are_read();
+    spelled_pages_are_read();
+    spelled_forks_are_read();
+    numbers_hold_their_bits();
+}
+
+/// A law: what stands in each sector of an image that spells a table, and what it reads as: the header, the page, the bitmap, and each inode of a chunk.
+pub fn spelled_places()
+    ensures header { (g : Geometry) (t : Table) (layouts : Layouts) (image : List Sector) (group : ℕ) → CanSpell g t layouts image → group < g.groups
+        → SpellsHeader (bytes_at (spelled g t layouts image) (sector_in g group header_place)) (header_for g group (group_of t group) layouts) }
+    ensures leaf { (g : Geometry) (t : Table) (layouts : Layouts) (image : List Sector) (group : ℕ) → CanSpell g t layouts image → group < g.groups
+        → IsLeaf (map record_of (group_of t group)) }
+    ensures page { (g : Geometry) (t : Table) (layouts : Layouts) (image : List Sector) (group : ℕ) → CanSpell g t layouts image → group < g.groups
+        → bytes_from (spelled g t layouts image) (sector_in g group (page_place layouts group)) BLOCK_SECTORS ≡ page_bytes g layouts group (group_of t group) }
+    ensures page_sector { (g : Geometry) (t : Table) (layouts : Layouts) (image : List Sector) (group k : ℕ) → CanSpell g t layouts image → group < g.groups → k < BLOCK_SECTORS
+        → bytes_at (spelled g t layouts image) (sector_in g group (page_place layouts group + k)) ≡ part k (page_bytes g layouts group (group_of t group)) }
+    ensures bitmap { (g : Geometry) (t : Table) (layouts : Layouts) (image : List Sector) (group k : ℕ) → CanSpell g t layouts image → group < g.groups → k < bitmap_sectors
+        → bytes_at (spelled g t layouts image) (sector_in g group (bitmap_place + k)) ≡ part k (bitmap (free_set g.blocks (group_of t group))) }
+    ensures inode { (g : Geometry) (t : Table) (layouts : Layouts) (image : List Sector) (group agino : ℕ) (inode : Inode) → CanSpell g t layouts image → group < g.groups
+        → inode_in (group_of t group) agino ≡ Some inode
+        → bytes_at (spelled g t layouts image) (sector_in g group agino) ≡ inode_sector g layouts group agino inode }
+    ensures core { (g : Geometry) (t : Table) (layouts : Layouts) (image : List Sector) (group agino : ℕ) (inode : Inode) → CanSpell g t layouts image → group < g.groups
+        → inode_in (group_of t group) agino ≡ Some inode
+        → Spells (bytes_at (spelled g t layouts image) (sector_in g group agino)) (number_in group agino) g.uuid
+        (core_for inode.generation inode.row (next_in (list_of layouts group (agino % BUCKETS)) agino)) }
+    ensures fork { (g : Geometry) (t : Table) (layouts : Layouts) (image : List Sector) (group agino : ℕ) (inode : Inode) (row : Row) → CanSpell g t layouts image → group < g.groups
+        → inode_in (group_of t group) agino ≡ Some inode → inode.row ≡ Some row
+        → HasFork (bytes_at (spelled g t layouts image) (sector_in g group agino)) (length (runs row.blocks)) group (runs row.blocks) }
 {
     spelled_cores_are_read();
     spelled_headers_are_read();
