@@ -1,11 +1,9 @@
 -- What stands at each place of an image that spells a table.
-use Rattle.std.proofs.Common.{◌≡◌, ◌<◌, ◌+◌, ◌%◌, ℕ, List, Some, length, map, arith, ◌∙◌, ap}
-use Rattle.std.specs.Option.{option_map}
+use Rattle.std.proofs.Common.{◌≡◌, ◌<◌, ◌+◌, ◌%◌, ℕ, List, Some, length, arith}
 use Rattle.life_bytes.specs.declared.sector.Sector.{Sector}
 use Rattle.geometry.specs.declared.shape.Geometry.{Geometry}
 use Rattle.extent_fork.specs.Forks.{HasFork}
 use Rattle.extent_fork.specs.Runs.{runs}
-use Rattle.ag_header.specs.Headers.{Spells as SpellsHeader}
 use Rattle.inode_core.specs.Cores.{Spells}
 use Rattle.free_map.specs.Bitmap.{bitmap}
 use Rattle.life_table.specs.declared.types.Row.{Row}
@@ -14,11 +12,11 @@ use Rattle.life_table.specs.declared.table.Table.{Table}
 use Rattle.life_table.specs.Table.{group_of, inode_in}
 use Rattle.sound_image.specs.Places.{bytes_at, bytes_from, number_in, part, sector_in}
 use Rattle.sound_image.specs.Rules.{free_set}
-use Rattle.sound_image.specs.Spelling.{Layouts, CanSpell, core_for, header_for, inode_sector, list_of, next_in, page_bytes, page_place, spelled}
-use Rattle.sound_image.proofs.Headers.{header_spelled, page_is}
+use Rattle.sound_image.specs.Spelling.{Layouts, core_for, inode_sector, list_of, next_in, page_bytes, page_place, spelled}
+use Rattle.sound_image.proofs.Headers.{page_is}
 use Rattle.sound_image.proofs.Inodes.{sector_is, stored, stored_runs}
 use Rattle.sound_image.proofs.Metadata.{at_bitmap, at_page}
-use Rattle.sound_image.proofs.Ready.{Lower, IsReady, ready}
+use Rattle.sound_image.proofs.Ready.{Lower, IsReady}
 use Rattle.sound_image.proofs.Sectors.{at_metadata}
 
 pub page_stands : (l : Lower) (g : Geometry) (t : Table) (layouts : Layouts) (image : List Sector) (group : ℕ) → IsReady g t layouts image group
