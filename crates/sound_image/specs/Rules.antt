@@ -60,7 +60,7 @@ pub record IsForkRight (g : Geometry) (image : List Sector) (group agino : ℕ) 
 abbrev pub IsIn : ℕ → List ℕ → Type 0
 IsIn block blocks = 1 ≤ times block blocks
 
--- no block of an inode in use is in a chunk, in an inode of smaller number, or twice in the inode
+-- the blocks of an inode in use are its own: no chunk has one of them, nor an inode below it, and none stands there twice
 pub record AreBlocksAlone (g : Geometry) (image : List Sector) (group agino : ℕ) (row : Row) : Type 0 where
   pub in_no_chunk : (block : ℕ) → IsIn block row.blocks → All (λ chunk. ¬ IsIn block (chunk_blocks chunk)) (group_read g image group)
   pub in_none_below : (block other : ℕ) → IsIn block row.blocks → other < agino → ¬ IsIn block (row_blocks (row_at g image group other))

@@ -15,7 +15,7 @@ pub record HasSuperblock (g : Geometry) (image : List Sector) : Type 0 where
   pub shape : IsGeometry g
   pub spelled : bytes_at image 0 ≡ spelling g
 
--- the image has at least the sectors of its geometry: the groups, the anchor and the ring
+-- no sector of the groups, the anchor and the ring is missing
 abbrev pub IsLongEnough : Geometry → List Sector → Type 0
 IsLongEnough g image = g.groups * group_sectors g + 1 + g.ring ≤ length image
 
