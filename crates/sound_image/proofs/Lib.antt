@@ -18,3 +18,4 @@ pub mod Layouts
 pub mod Again
 pub mod Opens
 pub mod Standing
+pub mod ByChunks

@@ -195,7 +195,7 @@ used_once group b (c ∷ cs) rows facts up =
 
 -- ---- the group that is read
 
-start_read : (g : Geometry) (image : List Sector) (group : ℕ) (r : ChunkRec) → (chunk_read g image group r).start ≡ r.start
+pub start_read : (g : Geometry) (image : List Sector) (group : ℕ) (r : ChunkRec) → (chunk_read g image group r).start ≡ r.start
 unfolding chunk_read
 start_read g image group r = refl
 
@@ -207,13 +207,13 @@ pub group_is_map : (g : Geometry) (image : List Sector) (group : ℕ) → group_
 unfolding group_read
 group_is_map g image group = refl
 
-abbrev no_record : ChunkRec
+abbrev pub no_record : ChunkRec
 no_record = record { start = 0; free = 0; mask = 0 }
 
 pub length_group : (g : Geometry) (image : List Sector) (group : ℕ) → length (group_read g image group) ≡ length (records_of g image group)
 length_group g image group = ap length (group_is_map g image group) ∙ length-map (records_of g image group) (chunk_read g image group)
 
-chunk_at : (g : Geometry) (image : List Sector) (group k : ℕ) (d : Chunk) → k < length (records_of g image group)
+pub chunk_at : (g : Geometry) (image : List Sector) (group k : ℕ) (d : Chunk) → k < length (records_of g image group)
     → get_or (group_read g image group) k d ≡ chunk_read g image group (get_or (records_of g image group) k no_record)
 chunk_at g image group k d lt =
     ap (λ (cs : Group). get_or cs k d) (group_is_map g image group) ∙ get_or-map (chunk_read g image group) (records_of g image group) k no_record d lt

@@ -1,6 +1,6 @@
 -- What the groups of an image give, whatever else they hold: headers, chunks, inodes and the table of them. Each is a
 -- function of the sectors; whether the sectors have the right form is for the rules to say.
-use Rattle.std.specs.Prelude.{◌+◌, ◌*◌, ℕ, List, Option, None, Some, if◌then◌else◌, map}
+use Rattle.std.specs.Prelude.{◌≡◌, ◌<◌, ◌+◌, ◌*◌, ℕ, List, Option, None, Some, if◌then◌else◌, map, slice_get}
 use Rattle.std.specs.List.{flat_map, range_with_len}
 use Rattle.std.specs.Option.{option_and_then}
 use Rattle.life_limits.specs.declared.TheConstants.{BLOCK_SECTORS, CHUNK_INODES}
@@ -73,3 +73,13 @@ inode_at g image group agino = inode_in (group_read g image group) agino
 -- the row of such an inode, where it is in use
 unfoldable pub row_at : Geometry → List Sector → ℕ → ℕ → Option Row
 row_at g image group agino = option_and_then (λ inode. inode.row) (inode_at g image group agino)
+
+-- an inode of a group is the one at an index of the chunk of one of the records
+pub record IsOfChunk (g : Geometry) (image : List Sector) (group agino : ℕ) (inode : Inode) : Type 0 where
+  pub place : ℕ
+  pub chunk : ChunkRec
+  pub index : ℕ
+  pub held : slice_get (records_of g image group) place ≡ Some chunk
+  pub low : index < CHUNK_INODES
+  pub number : agino ≡ chunk.start + index
+  pub read : inode ≡ inode_read g image group chunk index

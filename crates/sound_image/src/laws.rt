@@ -1,8 +1,9 @@
 // Laws of the definitions. Each is the contract of a function that does nothing but call the laws that its own rests on.
 
-ghost use Rattle.std.specs.Prelude.{◌≡◌, ◌≤◌, ◌<◌, ◌*◌, ◌/◌, ◌%◌, ◌+◌, ℕ, List, None, Some, length, map};
-ghost use Rattle.life_limits.specs.declared.TheConstants.{BLOCK_SECTORS, BUCKETS};
+ghost use Rattle.std.specs.Prelude.{◌≡◌, ◌≤◌, ◌<◌, ◌*◌, ◌/◌, ◌%◌, ◌+◌, ℕ, List, None, Some, length, map, slice_get, slice_range};
+ghost use Rattle.life_limits.specs.declared.TheConstants.{BLOCK_SECTORS, BUCKETS, CHUNK_INODES};
 ghost use Rattle.life_bytes.specs.declared.sector.Sector.{Sector};
+ghost use Rattle.life_bytes.specs.SectorBytes.{bytes_of};
 ghost use Rattle.geometry.specs.declared.shape.Geometry.{Geometry};
 ghost use Rattle.geometry.specs.Places.{group_sectors};
 ghost use Rattle.geometry.specs.Shape.{IsGeometry};
@@ -12,6 +13,7 @@ ghost use Rattle.inode_core.specs.Cores.{Spells};
 ghost use Rattle.extent_fork.specs.Forks.{HasFork};
 ghost use Rattle.extent_fork.specs.Runs.{runs};
 ghost use Rattle.ag_header.specs.Headers.{Spells as SpellsHeader};
+ghost use Rattle.inobt_leaf.specs.declared.chunk.ChunkRec.{ChunkRec};
 ghost use Rattle.inobt_leaf.specs.Chunks.{IsLeaf};
 ghost use Rattle.free_map.specs.Bitmap.{bitmap};
 ghost use Rattle.life_table.specs.declared.types.Row.{Row};
@@ -19,7 +21,7 @@ ghost use Rattle.life_table.specs.declared.table.Inode.{Inode};
 ghost use Rattle.life_table.specs.History.{closed};
 ghost use Rattle.life_table.specs.WellFormed.{IsTable};
 ghost use Rattle.sound_image.specs.Places.{AreSectors, bitmap_place, bitmap_sectors, bytes_at, bytes_from, header_place, number_in, part, sector_in};
-ghost use Rattle.sound_image.specs.Reading.{rows_of};
+ghost use Rattle.sound_image.specs.Reading.{inode_at, inode_read, IsOfChunk, records_of, rows_of};
 ghost use Rattle.sound_image.specs.Damage.{Rule, FirstDamage, IsSound};
 ghost use Rattle.sound_image.specs.Rules.{free_set};
 ghost use Rattle.sound_image.specs.Spelling.{Layouts, CanSpell, core_for, header_for, inode_sector, list_of, metadata, next_in, page_bytes, page_place, record_of, spelled};
@@ -120,6 +122,15 @@ pub fn sound_images_are_spelled()
     spelled_forks_are_read();
     numbers_hold_their_bits();
 }
+
+/// A law, for what reads an image: sectors that follow each other are a slice of it; and where a group's records are those of a leaf, each number of
+/// their chunks has its inode, and no other number has one.
+pub fn chunks_are_read()
+    ensures slice { (image : List Sector) (s n : ℕ) → s + n ≤ length image → bytes_of (slice_range image s (s + n)) ≡ bytes_from image s n }
+    ensures found { (g : Geometry) (image : List Sector) (group k i : ℕ) (chunk : ChunkRec) → IsLeaf (records_of g image group) → slice_get (records_of g image group) k ≡ Some chunk
+        → i < CHUNK_INODES → inode_at g image group (chunk.start + i) ≡ Some (inode_read g image group chunk i) }
+    ensures only { (g : Geometry) (image : List Sector) (group agino : ℕ) (inode : Inode) → inode_at g image group agino ≡ Some inode → IsOfChunk g image group agino inode }
+{}
 
 /// A law: an image stands for one table, with one geometry.
 pub fn images_stand_for_one_table()
