@@ -1,6 +1,6 @@
 // What the definitions have been proved to mean: each law is the contract of a function that does nothing.
 
-ghost use Rattle.std.specs.Prelude.{◌≡◌, ◌≢◌, ◌≤◌, ◌+◌, ℕ, List, IsSome, length, take};
+ghost use Rattle.std.specs.Prelude.{◌≡◌, ◌≢◌, ◌<◌, ◌≤◌, ◌+◌, ℕ, List, IsSome, length, take};
 ghost use Rattle.std.specs.List.{AllByRecursion};
 ghost use Rattle.std.specs.Option.{option_map};
 ghost use Rattle.life_table.specs.declared.key.Key.{Key};
@@ -12,10 +12,10 @@ ghost use Rattle.life_table.specs.declared.table.Table.{Table};
 ghost use Rattle.life_limits.specs.declared.TheConstants.{MAX_BLOCKS, MAX_GROUPS, MIN_BLOCKS, VERSION};
 ghost use Rattle.life_table.specs.Table.{empty_table, group_number, group_of, inode_of, row_of};
 ghost use Rattle.life_table.specs.Space.{times};
-ghost use Rattle.life_table.specs.Legal.{Legal, Permits, Frees, IsOfTable, CanMake, IsNoCut, free_in, free_of, last_blocks};
+ghost use Rattle.life_table.specs.Legal.{Legal, Permits, Frees, IsOpen, IsOfTable, CanMake, IsNoCut, free_in, free_of, last_blocks};
 ghost use Rattle.life_table.specs.Replies.{reply_of};
 ghost use Rattle.life_table.specs.WellFormed.{IsDataBlock, IsRow, IsTable};
-ghost use Rattle.life_table.specs.History.{Leads, After, changes, closed, recovered, recovered_inode, orphans, frees_of};
+ghost use Rattle.life_table.specs.History.{Leads, LegalHistory, holds, After, changes, closed, recovered, recovered_inode, orphans, frees_of};
 
 use crate::types::{Call, Reply};
 
@@ -42,6 +42,12 @@ pub fn each_call_has_one_reply()
     ensures at_most_one { (t u v : Table) (called : Call) (first second : Reply) → IsOfTable called → Legal t called first u → Legal t called second v → (first ≡ second) × (u ≡ v) }
     ensures at_least_one { (t : Table) (called : Call) → IsOfTable called → CanMake t called → (answer : Reply) × (u : Table) × Legal t called answer u }
     ensures computed { (t : Table) (called : Call) → IsOfTable called → CanMake t called → Permits t called (reply_of t called) }
+{}
+
+/// A law: an actor that holds a key by the entries of a legal history has a row there that somebody holds. So each call
+/// that a history lets an actor make has a reply.
+pub fn holders_have_rows()
+    ensures { (t u : Table) (entries : List Entry) (actor : ℕ) (key : Key) → IsTable t → LegalHistory t entries u → 0 < holds entries actor key → IsOpen (row_of u key) }
 {}
 
 /// A law: a free gives back the blocks of its row, each once, and touches no other group; a cut does so with the blocks

@@ -46,6 +46,7 @@ fn lists_keep_their_items(rt: HostRuntime) -> Result<(), Fail> {
     tables_stay_well_formed();
     no_key_comes_back();
     each_call_has_one_reply();
+    holders_have_rows();
     blocks_come_back_once();
     changes_tell_the_table();
     recovery_frees_once();
