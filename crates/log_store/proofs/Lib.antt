@@ -1,0 +1,7 @@
+pub mod Base
+pub mod Going
+pub mod Sound
+pub mod Falls
+pub mod Lands
+pub mod Launch
+pub mod Ways

@@ -1,0 +1,21 @@
+use Rattle.std.proofs.Common.{refl, ◌∙◌}
+use Rattle.log_store.proofs.Ways.{goes_both, goes_job}
+use Rattle.log_store.proofs.store.Store.run.Goals as goal
+
+pub loop-init : goal.loop-init
+loop-init g c = record { goes = goes_job g.D.Disk.told g.D.Disk.cells g.D.Disk.sector_count g.D.Disk.moment g.D.Disk.left_since c.args.self.now c.args.self.now.job c.requires c.requires.sound.job; goal = refl }
+
+pub returns-in_err-advance-clause-goes : goal.returns-in_err-advance-clause-goes
+returns-in_err-advance-clause-goes g c =
+    goes_both g.D.Disk.told g.D.Disk.cells g.D.Disk.sector_count g.D.Disk.moment g.D.Disk.left_since c.args.self.now c.loop.self c.advance.new.self c.loop.invariant.goes c.advance.ensures.goes
+
+pub loop-preserved : goal.loop-preserved
+loop-preserved g c =
+    let out = rw c.in-More.is at c.in_ok-advance.ensures.outcome in record {
+      goes = goes_both g.D.Disk.told g.D.Disk.cells g.D.Disk.sector_count g.D.Disk.moment g.D.Disk.left_since c.args.self.now c.loop.self c.advance.new.self c.loop.invariant.goes c.advance.ensures.goes;
+      goal = out.0 ∙ c.loop.invariant.goal;
+    }
+
+pub returns-in-Ended-clause-goes : goal.returns-in-Ended-clause-goes
+returns-in-Ended-clause-goes g c =
+    goes_both g.D.Disk.told g.D.Disk.cells g.D.Disk.sector_count g.D.Disk.moment g.D.Disk.left_since c.args.self.now c.loop.self c.advance.new.self c.loop.invariant.goes c.advance.ensures.goes

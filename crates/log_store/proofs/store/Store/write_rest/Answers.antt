@@ -1,0 +1,117 @@
+use Rattle.std.proofs.Common.{◌≡◌, ◌+◌, ◌-◌, ◌%◌, ◌<◌, ℕ, List, length, take, drop, sym, ap, ◌∙◌, subst, arith}
+use Rattle.std.specs.Prelude.{IsTrue}
+use Rattle.life_bytes.specs.declared.sector.Sector.{Sector}
+use Rattle.disk_model.specs.Disk.{Cell, IsImage, Elapses, IsPartlyWritten, written}
+use Rattle.disk_model.specs.DiskLaws.{IsImage-partly_written, length-written}
+use Rattle.log_record.specs.Spelling.{spelled}
+use Rattle.log_image.specs.Step.{place_of}
+use Rattle.log_image.specs.Writes.{first_part, rest_part}
+use Rattle.log_store.specs.declared.store.Store.{Store}
+use Rattle.log_store.specs.declared.store.Stage.{Stage}
+use Rattle.log_store.specs.declared.store.Stage.TheVariants.{Half, Record}
+use Rattle.log_store.specs.declared.store.Job.{Job}
+use Rattle.log_store.specs.declared.store.Job.TheVariants.{Clear, Force, Home, Idle}
+use Rattle.log_store.specs.Landed.{RingFits}
+use Rattle.log_store.specs.OnDisk.{Flies, HoldsAtStage, ReplaysTo, base_of, fully_written, half_written, item_of}
+use Rattle.log_store.specs.State.{State, state_of}
+use Rattle.log_store.specs.Steps.{Goes, IsInFlight, JobFits, StageFits}
+use Rattle.log_store.proofs.Base.{base-partly}
+use Rattle.log_store.proofs.Falls.{falls}
+use Rattle.log_store.proofs.Going.{leaves}
+use Rattle.log_store.proofs.Ways.{goes_written, rerest, rest_range}
+use Rattle.log_store.specs.OnDisk.{Replays}
+use Rattle.log_store.specs.declared.store.Job.TheVariants.{Nothing, WriteBack}
+use Rattle.log_store.proofs.store.Store.write_rest.Goals as goal
+
+record_force : (job : Job) → JobFits Half job → JobFits Record job
+record_force Force fits = tt
+record_force Clear fits = absurd fits
+record_force Home fits = absurd fits
+record_force WriteBack fits = absurd fits
+record_force Nothing fits = absurd fits
+record_force Idle fits = absurd fits
+
+pub returns-in-Ok-clause-goes : goal.returns-in-Ok-clause-goes
+returns-in-Ok-clause-goes g c =
+    let old = c.args.self.now in
+    let sound = c.requires.store.sound in
+    let s : State = state_of old in
+    let cells = g.D.Disk.cells old.disk in
+    let disk = c.write.new.self in
+    let xs = old.sectors.items in
+    let k = old.ring - old.positions.head % old.ring in
+    let fit : IsInFlight s xs old.count × (k < old.count) = subst (λ (st : Stage). StageFits st s xs old.count) c.requires.stage sound.stage in
+    let flight = fit.0 in
+    let held : IsTrue g.D.Disk.told → (before : List Cell) × Flies s before × (cells ≡ half_written s before) = λ tells.
+    subst (λ (st : Stage). HoldsAtStage st s cells) c.requires.stage (c.requires.store.holds tells) in
+    let pieces_is : take (old.count - c.straight-part.result) (drop c.straight-part.result c.deref.result.now) ≡ rest_part old.ring (item_of s) =
+    ap (λ (l : List Sector). take (old.count - c.straight-part.result) (drop c.straight-part.result l)) c.deref.ensures.value
+    ∙ ap (λ (n : ℕ). take (old.count - n) (drop n xs)) c.straight-part.ensures.left
+    ∙ rest_range xs (spelled (item_of s)) old.count k (omega (arith, fit.1)) flight.spelled in
+    let cells_is : (tells : IsTrue g.D.Disk.told) → written (old.anchor + 1) (take (old.count - c.straight-part.result) (drop c.straight-part.result c.deref.result.now)) cells ≡ fully_written s (held tells).0 = λ tells.
+    ap (λ (l : List Sector). written (old.anchor + 1) l cells) pieces_is ∙ ap (λ (cs : List Cell). written (old.anchor + 1) (rest_part old.ring (item_of s)) cs) (held tells).2 in
+    let ring_some : 0 < old.ring = omega (arith, flight.room) in
+    let before_fits : (tells : IsTrue g.D.Disk.told) → RingFits s (held tells).0 = λ tells. record {
+      some = ring_some;
+      place = omega (arith, sound.place, g.met.D.Disk.cells_fit tells old.disk, ap length (held tells).2, length-written (place_of s.anchor s.ring s.head) (first_part s.ring (item_of s)) (held tells).0);
+    } in
+    let base_half : (tells : IsTrue g.D.Disk.told) → base_of s cells ≡ base_of s (held tells).0 = λ tells.
+    ap (base_of s) (held tells).2 ∙ c.flights.ensures.half_base s (held tells).0 (before_fits tells) in
+    let images : (tells : IsTrue g.D.Disk.told) → (image : List Sector) → IsImage (fully_written s (held tells).0) image → ReplaysTo s cells image = λ tells image is.
+    subst (λ (b : List Sector). Replays old.anchor old.ring b old.queue.items old.durable image) (sym (base_half tells))
+    (c.flights.ensures.full s (held tells).0 image (held tells).1 (before_fits tells) is) in
+    let restaged : (tells : IsTrue g.D.Disk.told) → Flies (record s { stage = Record }) (held tells).0 = λ tells.
+    let flies = (held tells).1 in record { rest = rerest s old.queue.items old.batch old.taken Record (held tells).0 flies.rest; goes = flies.goes; batch = flies.batch } in
+    goes_written g.D.Disk.told g.D.Disk.cells g.D.Disk.sector_count g.D.Disk.moment g.D.Disk.left_since old disk old.sectors Record c.requires.store
+    (record_force old.job (subst (λ (st : Stage). JobFits st old.job) c.requires.stage sound.job))
+    c.in-Ok.ensures.sectors sound.buffer
+    (record { some = flight.some; batch = flight.batch; fits = flight.fits; size = flight.size; spelled = flight.spelled; room = flight.room; end = flight.end })
+    (λ tells. ((held tells).0, restaged tells, c.in-Ok.ensures.written tells ∙ cells_is tells))
+    (λ tells. ap (base_of s) (c.in-Ok.ensures.written tells ∙ cells_is tells) ∙ c.flights.ensures.full_base s (held tells).0 (held tells).1 (before_fits tells) ∙ sym (base_half tells))
+    (λ tells. leaves _ _ _ _ (fully_written s (held tells).0) (ReplaysTo s cells)
+    (subst (λ (cs : List Cell). Elapses (g.D.Disk.moment old.disk) (g.D.Disk.moment disk) (g.D.Disk.left_since old.disk) (g.D.Disk.left_since disk) (IsImage cs)) (cells_is tells) (c.in-Ok.ensures.time tells))
+    (images tells))
+
+pub returns-in-Err-clause-goes : goal.returns-in-Err-clause-goes
+returns-in-Err-clause-goes g c =
+    let old = c.args.self.now in
+    let sound = c.requires.store.sound in
+    let s : State = state_of old in
+    let cells = g.D.Disk.cells old.disk in
+    let disk = c.write.new.self in
+    let xs = old.sectors.items in
+    let k = old.ring - old.positions.head % old.ring in
+    let fit : IsInFlight s xs old.count × (k < old.count) = subst (λ (st : Stage). StageFits st s xs old.count) c.requires.stage sound.stage in
+    let flight = fit.0 in
+    let held : IsTrue g.D.Disk.told → (before : List Cell) × Flies s before × (cells ≡ half_written s before) = λ tells.
+    subst (λ (st : Stage). HoldsAtStage st s cells) c.requires.stage (c.requires.store.holds tells) in
+    let pieces_is : take (old.count - c.straight-part.result) (drop c.straight-part.result c.deref.result.now) ≡ rest_part old.ring (item_of s) =
+    ap (λ (l : List Sector). take (old.count - c.straight-part.result) (drop c.straight-part.result l)) c.deref.ensures.value
+    ∙ ap (λ (n : ℕ). take (old.count - n) (drop n xs)) c.straight-part.ensures.left
+    ∙ rest_range xs (spelled (item_of s)) old.count k (omega (arith, fit.1)) flight.spelled in
+    let cells_is : (tells : IsTrue g.D.Disk.told) → written (old.anchor + 1) (take (old.count - c.straight-part.result) (drop c.straight-part.result c.deref.result.now)) cells ≡ fully_written s (held tells).0 = λ tells.
+    ap (λ (l : List Sector). written (old.anchor + 1) l cells) pieces_is ∙ ap (λ (cs : List Cell). written (old.anchor + 1) (rest_part old.ring (item_of s)) cs) (held tells).2 in
+    let ring_some : 0 < old.ring = omega (arith, flight.room) in
+    let before_fits : (tells : IsTrue g.D.Disk.told) → RingFits s (held tells).0 = λ tells. record {
+      some = ring_some;
+      place = omega (arith, sound.place, g.met.D.Disk.cells_fit tells old.disk, ap length (held tells).2, length-written (place_of s.anchor s.ring s.head) (first_part s.ring (item_of s)) (held tells).0);
+    } in
+    let base_half : (tells : IsTrue g.D.Disk.told) → base_of s cells ≡ base_of s (held tells).0 = λ tells.
+    ap (base_of s) (held tells).2 ∙ c.flights.ensures.half_base s (held tells).0 (before_fits tells) in
+    let images : (tells : IsTrue g.D.Disk.told) → (image : List Sector) → IsImage (fully_written s (held tells).0) image → ReplaysTo s cells image = λ tells image is.
+    subst (λ (b : List Sector). Replays old.anchor old.ring b old.queue.items old.durable image) (sym (base_half tells))
+    (c.flights.ensures.full s (held tells).0 image (held tells).1 (before_fits tells) is) in
+    let restaged : (tells : IsTrue g.D.Disk.told) → Flies (record s { stage = Record }) (held tells).0 = λ tells.
+    let flies = (held tells).1 in record { rest = rerest s old.queue.items old.batch old.taken Record (held tells).0 flies.rest; goes = flies.goes; batch = flies.batch } in
+    let partly : (tells : IsTrue g.D.Disk.told) → IsPartlyWritten (old.anchor + 1) (rest_part old.ring (item_of s)) cells (g.D.Disk.cells disk) = λ tells.
+    subst (λ (l : List Sector). IsPartlyWritten (old.anchor + 1) l cells (g.D.Disk.cells disk)) pieces_is (c.in-Err.ensures.failed tells) in
+    let still : (tells : IsTrue g.D.Disk.told) → written (old.anchor + 1) (rest_part old.ring (item_of s)) cells ≡ fully_written s (held tells).0 = λ tells.
+    ap (λ (cs : List Cell). written (old.anchor + 1) (rest_part old.ring (item_of s)) cs) (held tells).2 in
+    subst (λ (x : Store g.row.D.Denot). Goes g.D.Disk.told g.D.Disk.cells g.D.Disk.sector_count g.D.Disk.moment g.D.Disk.left_since old x) (sym c.go_down.ensures)
+    (falls g.D.Disk.told g.D.Disk.cells g.D.Disk.sector_count g.D.Disk.moment g.D.Disk.left_since old disk old.sectors _ c.requires.store c.in-Err.ensures.sectors sound.buffer
+    (λ tells. base-partly s (old.anchor + 1) (rest_part old.ring (item_of s)) cells (g.D.Disk.cells disk) (omega arith) (partly tells))
+    (λ tells image is. images tells image (subst (λ (cs : List Cell). IsImage cs image) (still tells)
+    (IsImage-partly_written (old.anchor + 1) (rest_part old.ring (item_of s)) cells (g.D.Disk.cells disk) image (partly tells) is)))
+    (λ tells. leaves _ _ _ _ (fully_written s (held tells).0) (ReplaysTo s cells)
+    (subst (λ (cs : List Cell). Elapses (g.D.Disk.moment old.disk) (g.D.Disk.moment disk) (g.D.Disk.left_since old.disk) (g.D.Disk.left_since disk) (IsImage cs)) (cells_is tells) (c.in-Err.ensures.time tells))
+    (images tells)))

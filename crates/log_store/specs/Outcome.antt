@@ -1,0 +1,82 @@
+-- What a step of a job answers, and when.
+use Rattle.std.specs.Prelude.{ℕ, ◌≡◌, ◌≢◌, ◌⊎◌, ◌≤◌, ◌<◌, ◌+◌, ◌-◌, ◌*◌, ◌^◌, nat_lt, if◌then◌else◌, false, [], length, Result, Ok, Err, Option, Some, None}
+use Rattle.life_ports.specs.Faults.{Rose}
+use Rattle.log_record.specs.Spelling.{sector_count}
+use Rattle.log_store.specs.declared.fault.Progress.{Progress}
+use Rattle.log_store.specs.declared.fault.Progress.TheVariants.{More, Ended}
+use Rattle.log_store.specs.declared.fault.StoreFault.{StoreFault}
+use Rattle.log_store.specs.declared.fault.StoreFault.TheVariants.{WriteFault, FlushFault, PositionEnd}
+use Rattle.log_store.specs.declared.fault.StoreFault.TheVariants as faults
+use Rattle.log_store.specs.declared.store.Job.{Job}
+use Rattle.log_store.specs.declared.store.Job.TheVariants.{Clear, Force, Home, Idle, Nothing, WriteBack}
+use Rattle.log_store.specs.declared.store.Stage.{Stage}
+use Rattle.log_store.specs.declared.store.Stage.TheVariants.{Free, Half, Record, Cover, Down}
+use Rattle.log_store.specs.State.{State}
+
+-- what a job is for: room is made for a force alone
+abbrev pub goal_of : Job → Job
+goal_of Clear = Force
+goal_of Force = Force
+goal_of Home = Home
+goal_of WriteBack = WriteBack
+goal_of Nothing = Nothing
+goal_of Idle = Idle
+
+-- what a job that is done has reached
+abbrev pub IsDone : Job → State → Type 0
+IsDone Force s = s.list ≡ []
+IsDone Clear s = s.list ≡ []
+IsDone Home s = (s.dirty ≡ []) × (s.unflushed ≡ false) × (s.head ≡ s.tail + 1)
+IsDone WriteBack s = (s.dirty ≡ []) × (s.unflushed ≡ false)
+IsDone Nothing s = Unit {0}
+IsDone Idle s = Unit {0}
+
+-- how many more steps a job may take where nothing is in flight, apart from those of each commit and each dirty sector
+abbrev pub steps_at_rest : Job → State → ℕ
+steps_at_rest Force s = if nat_lt s.ring ((s.head - s.tail) + 136) then 10 else 5
+steps_at_rest Clear s = if s.unflushed then 8 else 7
+steps_at_rest Home s = if s.unflushed then 8 else 7
+steps_at_rest WriteBack s = if s.unflushed then 8 else 7
+steps_at_rest Nothing s = 1
+steps_at_rest Idle s = 1
+
+abbrev pub steps_at : Stage → Job → State → ℕ
+steps_at Free job s = steps_at_rest job s
+steps_at Half job s = 4
+steps_at Record job s = 3
+steps_at Cover job s = 6
+steps_at (Down fault) job s = 0
+
+-- a bound of the steps that are left of a job
+abbrev pub steps_left : State → Job → ℕ
+steps_left s job = 600 * length s.list + 2 * length s.dirty + steps_at s.stage job s
+
+-- A home write failed: its sector is still dirty, and the store goes on.
+abbrev pub HomeFails : State → State → Type 0
+HomeFails old new = (old.dirty ≢ []) × (new.dirty ≡ old.dirty) × (old.stage ≡ Free) × (new.stage ≡ Free)
+
+-- What a step answers, with the state and the job before and after it, and the disk's counts of faults. After a failed
+-- write of the log or a failed flush the store is down, with the count then, and answers that and nothing else.
+abbrev pub IsOutcome : Result Progress StoreFault → State → State → Job → Job → ℕ → ℕ → Type 0
+IsOutcome (Ok More) old new was job before now = (goal_of job ≡ goal_of was) × (steps_left new job < steps_left old was) × (before ≤ now)
+IsOutcome (Ok Ended) old new was job before now = (job ≡ Idle) × IsDone was new × (before ≤ now)
+IsOutcome (Err WriteFault) old new was job before now = (job ≡ Idle) × Rose before now × ((new.stage ≡ Down now) ⊎ HomeFails old new)
+IsOutcome (Err FlushFault) old new was job before now = (job ≡ Idle) × Rose before now × (new.stage ≡ Down now)
+IsOutcome (Err PositionEnd) old new was job before now = (job ≡ Idle) × (new.stage ≡ Free) × (new.head ≡ old.head)
+    × ((2 ^ 63 < old.head + sector_count (length new.batch)) ⊎ (2 ^ 63 < old.head + 1))
+IsOutcome (Err (faults.Down fault)) old new was job before now = (job ≡ Idle) × (old.stage ≡ Down fault) × (new ≡ old) × (now ≡ before)
+
+-- What a whole job answers in place of its end. The count rose in the job, or the store was down before it.
+abbrev pub IsFault : StoreFault → State → State → ℕ → ℕ → Type 0
+IsFault WriteFault old new before now = Rose before now
+IsFault FlushFault old new before now = Rose before now × (new.stage ≡ Down now)
+IsFault PositionEnd old new before now = (new.stage ≡ Free) × (2 ^ 63 < new.head + 136)
+IsFault (faults.Down fault) old new before now = (old.stage ≡ Down fault) × (new.stage ≡ Down fault) × (now ≡ before)
+
+-- the count that a store that is down keeps
+abbrev pub down_count : Stage → Option ℕ
+down_count (Down fault) = Some fault
+down_count Free = None
+down_count Half = None
+down_count Record = None
+down_count Cover = None

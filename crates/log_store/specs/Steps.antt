@@ -1,0 +1,119 @@
+-- What each call of a store keeps, and what it moves.
+use Rattle.std.specs.Prelude.{ℕ, ◌≡◌, ◌≤◌, ◌<◌, ◌+◌, ◌-◌, ◌%◌, ◌^◌, Bool, false, IsTrue, List, [], length, take, drop}
+use Rattle.std.specs.List.{All}
+use Rattle.life_bytes.specs.declared.sector.Sector.{Sector}
+use Rattle.disk_model.specs.Disk.{Cell}
+use Rattle.log_record.specs.Spelling.{FitsFields, sector_count, spelled}
+use Rattle.log_image.specs.Log.{IsGroupImage}
+use Rattle.log_image.specs.Overlay.{overlaid}
+use Rattle.log_batch.specs.Newest.{IsCommit, commit_images}
+use Rattle.log_batch.specs.Put.{Rises}
+use Rattle.log_store.specs.declared.store.Stage.{Stage}
+use Rattle.log_store.specs.declared.store.Stage.TheVariants.{Free, Half, Record, Cover, Down}
+use Rattle.log_store.specs.declared.store.Job.{Job}
+use Rattle.log_store.specs.declared.store.Job.TheVariants.{Clear, Force, Home, Idle, Nothing, WriteBack}
+use Rattle.log_store.specs.declared.store.Store.{Store}
+use Rattle.log_store.specs.Moments.{LeavesOnly}
+use Rattle.log_store.specs.OnDisk.{HoldsState, IsTaken, ReplaysTo, base_of, item_of}
+use Rattle.log_store.specs.State.{State, state_of}
+
+-- the record that is being written stands in the store's buffer, and has room
+pub record IsInFlight (s : State) (sectors : List Sector) (count : ℕ) : Type 0 where
+  pub some : 0 < s.taken
+  pub batch : IsTaken s.list s.taken s.batch
+  pub fits : FitsFields (item_of s)
+  pub size : count ≡ sector_count (length s.batch)
+  pub spelled : take count sectors ≡ spelled (item_of s)
+  pub room : (s.head - s.tail) + count + 1 ≤ s.ring
+  pub end : s.head + count ≤ 2 ^ 63
+
+-- what a stage asks of the store's fields
+abbrev pub StageFits : Stage → State → List Sector → ℕ → Type 0
+StageFits Free s sectors count = Unit {0}
+StageFits Half s sectors count = IsInFlight s sectors count × (s.ring - s.head % s.ring < count)
+StageFits Record s sectors count = IsInFlight s sectors count
+StageFits Cover s sectors count = (s.head + 1 ≤ 2 ^ 63) × (s.dirty ≡ []) × (s.unflushed ≡ false)
+StageFits (Down fault) s sectors count = Unit {0}
+
+-- the job that may be going at a stage
+abbrev pub JobFits : Stage → Job → Type 0
+JobFits Half Force = Unit {0}
+JobFits Half job = ⊥
+JobFits Record Force = Unit {0}
+JobFits Record job = ⊥
+JobFits Cover Clear = Unit {0}
+JobFits Cover Home = Unit {0}
+JobFits Cover job = ⊥
+JobFits Free job = Unit {0}
+JobFits (Down fault) job = Unit {0}
+
+-- the jobs that write sectors home
+abbrev pub MovesHome : Job → Type 0
+MovesHome Clear = Unit {0}
+MovesHome Home = Unit {0}
+MovesHome WriteBack = Unit {0}
+MovesHome Force = ⊥
+MovesHome Nothing = ⊥
+MovesHome Idle = ⊥
+
+-- the jobs that move the tail
+abbrev pub Covering : Job → Type 0
+Covering Clear = Unit {0}
+Covering Home = Unit {0}
+Covering WriteBack = ⊥
+Covering Force = ⊥
+Covering Nothing = ⊥
+Covering Idle = ⊥
+
+-- What a store's fields always meet, on a disk of so many sectors: the log lies on the disk; commits are ones that a
+-- record can take, of sectors of the groups, with numbers of 64 bits; dirty images are by ascending home; and there is
+-- room for those of all commits.
+pub record IsSound {D : Type 0} (sector_count : ℕ) (store : Store D) : Type 0 where
+  pub place : store.anchor + 1 + store.ring ≤ sector_count
+  pub last : store.anchor + 1 + store.ring < 2 ^ 64
+  pub ring : store.positions.ring ≡ store.ring
+  pub commits : All IsCommit store.queue.items
+  pub groups : All (IsGroupImage store.anchor) (commit_images store.queue.items)
+  pub numbers : store.durable + length store.queue.items < 2 ^ 64 - 1
+  pub rises : Rises (λ i. i.home) 0 store.dirty.images
+  pub homes : All (IsGroupImage store.anchor) store.dirty.images
+  pub room : length (commit_images store.queue.items) ≤ store.dirty.room
+  pub buffer : length store.sectors.items ≡ 135
+  pub stage : StageFits store.stage (state_of store) store.sectors.items store.count
+  pub job : JobFits store.stage store.job
+
+-- a store whose fields and whose disk are right
+pub record IsStore {D : Type 0} (told : Bool) (cells : D → List Cell) (sector_count : D → ℕ) (store : Store D) : Type 0 where
+  pub sound : IsSound (sector_count store.disk) store
+  pub holds : IsTrue told → HoldsState (state_of store) (cells store.disk)
+
+-- Some first commits of the list became durable: they left the list, the durable number rose by their number, and the
+-- base has their images over it. Nothing else of what is seen moved.
+pub record Moves (told : Bool) (old new : State) (before after : List Cell) : Type 0 where
+  pub anchor : new.anchor ≡ old.anchor
+  pub ring : new.ring ≡ old.ring
+  pub count : ℕ
+  pub within : count ≤ length old.list
+  pub list : new.list ≡ drop count old.list
+  pub durable : new.durable ≡ old.durable + count
+  pub base : IsTrue told → base_of new after ≡ overlaid (base_of old before) (commit_images (take count old.list))
+
+-- A call of a store went on from one store to another: it is still right, its commits moved in order, and a stop in the
+-- call left nothing but what replays to the base with some first commits of the list over it.
+pub record Goes {D : Type 0} (told : Bool) (cells : D → List Cell) (sector_count moment : D → ℕ) (left : D → ℕ → List Sector → Type 0) (old new : Store D) : Type 0 where
+  pub store : IsStore told cells sector_count new
+  pub moves : Moves told (state_of old) (state_of new) (cells old.disk) (cells new.disk)
+  pub moments : IsTrue told → LeavesOnly (moment old.disk) (moment new.disk) (left old.disk) (left new.disk)
+      (ReplaysTo (state_of old) (cells old.disk))
+
+-- a store that begins: nothing is taken, logged or in flight
+pub record IsNew {D : Type 0} (disk : D) (anchor ring position next : ℕ) (store : Store D) : Type 0 where
+  pub disk_is : store.disk ≡ disk
+  pub places : (store.anchor ≡ anchor) × (store.ring ≡ ring)
+  pub positions : (store.positions.head ≡ position) × (store.positions.tail ≡ position)
+  pub durable : store.durable + 1 ≡ next
+  pub list : store.queue.items ≡ []
+  pub dirty : store.dirty.images ≡ []
+  pub unflushed : store.unflushed ≡ false
+  pub stage : store.stage ≡ Free
+  pub job : store.job ≡ Idle

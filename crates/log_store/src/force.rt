@@ -1,0 +1,78 @@
+// Whole jobs.
+ghost use Rattle.std.specs.Prelude.{◌≡◌, ◌+◌, [], false, IfOk, OnOk};
+ghost use Rattle.log_store.specs.declared.store.Job.TheVariants.{Idle};
+ghost use Rattle.log_store.specs.Outcome.{IsDone};
+ghost use Rattle.log_store.specs.State.{state_of};
+ghost use Rattle.log_store.specs.Steps.{Goes, IsStore};
+
+use crate::fault::{Progress, StoreFault};
+use crate::store::{Job, Store};
+use disk_model::Disk;
+
+impl<D: Disk> Store<D> {
+    /// Goes on with the job until it ends.
+    fn run(&mut self) -> Result<(), StoreFault>
+        requires { IsStore D.told D.cells D.sector_count self.old }
+        ensures goes { Goes D.told D.cells D.sector_count D.moment D.left_since self.old self.new }
+        ensures idle { self.new.job ≡ Idle }
+        ensures done { OnOk result (IsDone self.old.job (state_of self.new)) }
+    {
+        loop {
+            match self.advance()? {
+                Progress::More => {}
+                Progress::Ended => return Ok(()),
+            }
+        }
+    }
+
+    /// Makes every taken commit durable, and answers the greatest commit number. No job may be going.
+    pub fn force(&mut self) -> Result<u64, StoreFault>
+        requires store { IsStore D.told D.cells D.sector_count self.old }
+        requires idle { self.old.job ≡ Idle }
+        ensures goes { Goes D.told D.cells D.sector_count D.moment D.left_since self.old self.new }
+        ensures idle { self.new.job ≡ Idle }
+        ensures all { OnOk result (self.new.queue.items ≡ []) }
+        ensures number { IfOk result (λ number. number ≡ self.new.durable) }
+    {
+        self.begin(Job::Force);
+        self.run()?;
+        Ok(self.durable)
+    }
+
+    /// Writes every logged sector home, and flushes where it wrote one. No job may be going.
+    pub fn write_back(&mut self) -> Result<(), StoreFault>
+        requires store { IsStore D.told D.cells D.sector_count self.old }
+        requires idle { self.old.job ≡ Idle }
+        ensures goes { Goes D.told D.cells D.sector_count D.moment D.left_since self.old self.new }
+        ensures idle { self.new.job ≡ Idle }
+        ensures home { OnOk result ((self.new.dirty.images ≡ []) × (self.new.unflushed ≡ false)) }
+    {
+        self.begin(Job::WriteBack);
+        self.run()
+    }
+
+    /// Writes the cover record, flushes it and moves the tail. Every logged sector has to be home and flushed, and
+    /// no job may be going.
+    pub fn cover(&mut self) -> Result<(), StoreFault>
+        requires store { IsStore D.told D.cells D.sector_count self.old }
+        requires idle { self.old.job ≡ Idle }
+        requires home { self.old.dirty.images ≡ [] }
+        requires flushed { self.old.unflushed ≡ false }
+        ensures goes { Goes D.told D.cells D.sector_count D.moment D.left_since self.old self.new }
+        ensures idle { self.new.job ≡ Idle }
+        ensures moved { OnOk result (self.new.positions.head ≡ self.new.positions.tail + 1) }
+    {
+        self.begin(Job::Home);
+        self.run()
+    }
+
+    /// Begins a job.
+    fn begin(&mut self, job: Job)
+        requires store { IsStore D.told D.cells D.sector_count self.old }
+        requires idle { self.old.job ≡ Idle }
+        ensures goes { Goes D.told D.cells D.sector_count D.moment D.left_since self.old self.new }
+        ensures job { self.new ≡ record self.old { job = job } }
+    {
+        self.job = job;
+    }
+}

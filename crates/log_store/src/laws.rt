@@ -1,0 +1,81 @@
+// What holds of a store's disk, step by step, whatever the disk is.
+ghost use Rattle.std.specs.Prelude.{ℕ, ◌≡◌, ◌≤◌, ◌<◌, ◌+◌, ◌^◌, false, List, [], ◌∷◌, length, take};
+ghost use Rattle.life_bytes.specs.declared.sector.Sector.{Sector};
+ghost use Rattle.disk_model.specs.Disk.{Cell, IsImage, IsPartlyWritten, flushed, written};
+ghost use Rattle.log_record.specs.declared.image.Image.{Image};
+ghost use Rattle.log_image.specs.Log.{IsGroupImage};
+ghost use Rattle.log_image.specs.Overlay.{overlaid};
+ghost use Rattle.log_batch.specs.Newest.{commit_images};
+ghost use Rattle.log_batch.specs.Put.{Rises};
+ghost use Rattle.log_store.specs.Landed.{RingFits, covered, flushed_home, landed, written_home};
+ghost use Rattle.log_store.specs.OnDisk.{AtRest, Covers, Flies, HoldsState, ReplaysTo, base_of, cover_written, fully_written, half_written};
+ghost use Rattle.log_store.specs.State.{State};
+ghost use Rattle.log_store.specs.declared.store.Stage.TheVariants.{Cover};
+
+use log_image::{covers, disk_writes, home_writes, torn_records};
+
+/// Laws of a record in flight: an image replays to the base, or to the base with the record's commits over it; and once
+/// it is flushed, nothing is in flight.
+pub(crate) fn flights()
+    ensures half { (s : State) (before : List Cell) (image : List Sector) → Flies s before → RingFits s before
+        → IsImage (half_written s before) image → ReplaysTo s before image }
+    ensures full { (s : State) (before : List Cell) (image : List Sector) → Flies s before → RingFits s before
+        → IsImage (fully_written s before) image → ReplaysTo s before image }
+    ensures half_base { (s : State) (before : List Cell) → RingFits s before → base_of s (half_written s before) ≡ base_of s before }
+    ensures full_base { (s : State) (before : List Cell) → Flies s before → RingFits s before → base_of s (fully_written s before) ≡ base_of s before }
+    ensures landed { (s : State) (before : List Cell) → Flies s before → RingFits s before → Rises (λ i. i.home) 0 s.dirty
+        → AtRest (landed s) (flushed (fully_written s before)) }
+    ensures base { (s : State) (before : List Cell) → Flies s before → RingFits s before → Rises (λ i. i.home) 0 s.dirty
+        → base_of (landed s) (flushed (fully_written s before)) ≡ overlaid (base_of s before) (commit_images (take s.taken s.list)) }
+{
+    torn_records();
+    disk_writes();
+}
+
+/// Laws of a cover: while it is written an image replays to the base; and once it is flushed, nothing is in flight.
+pub(crate) fn cover_flights()
+    ensures written { (s : State) (before : List Cell) (image : List Sector) → Covers s before → RingFits s before → s.head + 1 ≤ 2 ^ 63
+        → IsImage (cover_written s before) image → ReplaysTo s before image }
+    ensures written_base { (s : State) (before : List Cell) → RingFits s before → base_of s (cover_written s before) ≡ base_of s before }
+    ensures landed { (s : State) (before : List Cell) → Covers s before → RingFits s before → s.head + 1 ≤ 2 ^ 63
+        → AtRest (covered s) (flushed (cover_written s before)) }
+    ensures base { (s : State) (before : List Cell) → Covers s before → RingFits s before → s.head + 1 ≤ 2 ^ 63
+        → base_of (covered s) (flushed (cover_written s before)) ≡ base_of s before }
+{
+    torn_records();
+    home_writes();
+    covers();
+    disk_writes();
+}
+
+/// Whatever a store is at, each image of its disk replays to its base with some first commits of its list over it.
+pub(crate) fn states()
+    ensures replays { (s : State) (cells : List Cell) (image : List Sector) → HoldsState s cells → RingFits s cells
+        → (s.stage ≡ Cover → s.head + 1 ≤ 2 ^ 63) → IsImage cells image → ReplaysTo s cells image }
+{
+    flights();
+    cover_flights();
+}
+
+/// Laws of writes home: the base stays, and nothing is in flight.
+pub(crate) fn homes()
+    ensures images { (s : State) (cells : List Cell) (image : Image) (rest : List Image) (left : List Sector) → AtRest s cells
+        → s.dirty ≡ image ∷ rest → Rises (λ i. i.home) 0 s.dirty → image.home < s.anchor → s.anchor ≤ length cells
+        → IsImage (written image.home (image.sector ∷ []) cells) left → ReplaysTo s cells left }
+    ensures done { (s : State) (cells : List Cell) (image : Image) (rest : List Image) → AtRest s cells
+        → s.dirty ≡ image ∷ rest → Rises (λ i. i.home) 0 s.dirty → image.home < s.anchor → s.anchor ≤ length cells
+        → AtRest (written_home s rest) (written image.home (image.sector ∷ []) cells) }
+    ensures base { (s : State) (cells : List Cell) (image : Image) (rest : List Image) → AtRest s cells
+        → s.dirty ≡ image ∷ rest → Rises (λ i. i.home) 0 s.dirty → image.home < s.anchor → s.anchor ≤ length cells
+        → base_of (written_home s rest) (written image.home (image.sector ∷ []) cells) ≡ base_of s cells }
+    ensures failed { (s : State) (cells new : List Cell) (image : Image) (rest : List Image) → AtRest s cells
+        → s.dirty ≡ image ∷ rest → Rises (λ i. i.home) 0 s.dirty → image.home < s.anchor → s.anchor ≤ length cells
+        → IsPartlyWritten image.home (image.sector ∷ []) cells new → AtRest (written_home s s.dirty) new }
+    ensures failed_base { (s : State) (cells new : List Cell) (image : Image) (rest : List Image) → AtRest s cells
+        → s.dirty ≡ image ∷ rest → Rises (λ i. i.home) 0 s.dirty → image.home < s.anchor → s.anchor ≤ length cells
+        → IsPartlyWritten image.home (image.sector ∷ []) cells new → base_of (written_home s s.dirty) new ≡ base_of s cells }
+    ensures flushed { (s : State) (cells : List Cell) → AtRest s cells → AtRest (flushed_home s) (flushed cells) }
+{
+    home_writes();
+    disk_writes();
+}

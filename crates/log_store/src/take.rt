@@ -1,0 +1,67 @@
+// Taking commits.
+ghost use Rattle.std.specs.Prelude.{◌≡◌, ◌≤◌, ◌<◌, ◌+◌, ◌-◌, ◌^◌, [], ◌∷◌, ◌++◌, length, IfSome, OnOk};
+ghost use Rattle.std.specs.List.{All};
+ghost use Rattle.std.specs.VecDeque.{deque_capacity, deque_len};
+ghost use Rattle.log_image.specs.Log.{IsGroupImage};
+ghost use Rattle.log_batch.specs.Newest.{IsCommit, commit_images};
+ghost use Rattle.log_store.specs.State.{state_of};
+ghost use Rattle.log_store.specs.Steps.{IsStore};
+
+use crate::store::Store;
+use disk_model::Disk;
+use life_ports::NoMemory;
+use log_record::Commit;
+use std::collections::VecDeque;
+
+/// How many images commits have, where that is a number of 64 bits.
+fn count_images(commits: &VecDeque<Commit>) -> Option<usize>
+    ensures { IfSome result (λ count. count ≡ length (commit_images commits.now.items)) }
+{
+    let mut count = 0usize;
+    for i in 0..commits.len() {
+        count = count.checked_add(commits[i].images.len())?;
+    }
+    Some(count)
+}
+
+impl<D: Disk> Store<D> {
+    /// Makes room for so many more commits with so many images, and for all that making them durable and writing
+    /// them home needs.
+    pub fn reserve(&mut self, commits: u32, images: u32) -> Result<(), NoMemory>
+        requires { IsStore D.told D.cells D.sector_count self.old }
+        ensures store { IsStore D.told D.cells D.sector_count self.new }
+        ensures state { state_of self.new ≡ state_of self.old }
+        ensures disk { self.new.disk ≡ self.old.disk }
+        ensures job { self.new.job ≡ self.old.job }
+        ensures commits { OnOk result (deque_len self.new.queue + commits ≤ deque_capacity self.new.queue) }
+        ensures images { OnOk result (length (commit_images self.new.queue.items) + images ≤ self.new.dirty.room) }
+    {
+        let Some(waiting) = count_images(&self.queue) else {
+            return Err(NoMemory);
+        };
+        let Some(more) = waiting.checked_add(images as usize) else {
+            return Err(NoMemory);
+        };
+        self.queue.reserve(commits as usize)?;
+        self.dirty.reserve(more)
+    }
+
+    /// Takes a commit, which gets the next number. There has to be room for it.
+    pub fn take(&mut self, commit: Commit)
+        requires store { IsStore D.told D.cells D.sector_count self.old }
+        requires commits { deque_len self.old.queue < deque_capacity self.old.queue }
+        requires images { length (commit_images self.old.queue.items) + length commit.images ≤ self.old.dirty.room }
+        requires commit { IsCommit commit }
+        requires groups { All (IsGroupImage self.old.anchor) commit.images }
+        requires number { self.old.durable + length self.old.queue.items + 1 < 2 ^ 64 - 1 }
+        ensures store { IsStore D.told D.cells D.sector_count self.new }
+        ensures list { state_of self.new ≡ record (state_of self.old) { list = self.old.queue.items ++ commit ∷ [] } }
+        ensures disk { self.new.disk ≡ self.old.disk }
+        ensures job { self.new.job ≡ self.old.job }
+        ensures commits { deque_len self.new.queue ≡ deque_len self.old.queue + 1 }
+        ensures images { self.new.dirty ≡ self.old.dirty }
+        ensures capacity { deque_capacity self.new.queue ≡ deque_capacity self.old.queue }
+    {
+        self.queue.push_back_reserved(commit);
+    }
+}
