@@ -1,8 +1,7 @@
 -- The holds of a history's entries are no more than those that a row counts.
-use Rattle.std.proofs.Common.{◌≡◌, ◌≢◌, ◌==◌, ◌+◌, ◌-◌, ◌*◌, ◌/◌, ◌%◌, ◌<◌, ◌≤◌, ◌&&◌, ◌⊎◌, ℕ, zero, suc, Bool, true, false, cond, List, [], ◌∷◌, ◌++◌, Option, None, Some, IsSomeAnd, if◌then◌else◌, length, sum_by, count_by, refl, sym, ap, subst, ◌∙◌, append-nil, append_assoc, inl, inr, arith}
-use Rattle.std.proofs.lemmas.Option.{none-some, same_Some}
+use Rattle.std.proofs.Common.{◌≡◌, ◌≢◌, ◌==◌, ◌+◌, ◌<◌, ◌≤◌, ◌&&◌, ◌⊎◌, ℕ, suc, Bool, true, false, List, [], ◌∷◌, ◌++◌, Option, None, Some, IsSomeAnd, if◌then◌else◌, length, count_by, refl, sym, ap, subst, ◌∙◌, append-nil, append_assoc, inl, inr, arith}
 use Rattle.std.proofs.lemmas.List.Sums.{sum_by-append}
-use Rattle.std.proofs.lemmas.Bool.{cases_Bool, cases_eq, cases_lt, eqb-true, eq-eqb, ne_eqb, and_parts, and_from, and_left, and_right, true≢false, false≢true}
+use Rattle.std.proofs.lemmas.Bool.{cases_Bool, cases_eq, eqb-true, eq-eqb, ne_eqb, and_parts, and_from, and_left, and_right, true≢false, false≢true}
 use Rattle.life_table.specs.declared.key.Key.{Key}
 use Rattle.life_table.specs.declared.types.Row.{Row}
 use Rattle.life_table.specs.declared.types.Call.{Call}
@@ -16,13 +15,13 @@ use Rattle.life_table.specs.declared.table.Inode.{Inode}
 use Rattle.life_table.specs.declared.table.Table.{Table}
 use Rattle.life_table.specs.Table.{inode_of, row_in_life, row_of, with_row, in_use, with_inode}
 use Rattle.life_table.specs.Space.{times}
-use Rattle.life_table.specs.Legal.{Awaits, prepare, IsNextKey, KeyReplies, Permits, Legal, IsOpen, made_row, row_after, with_changed, after_call, freed, Frees}
-use Rattle.life_table.specs.History.{Happens, Leads, same_key, takes_hold, gives_up, holds, key_of, IsHeld, IsByHolder, AreByHolders, LegalHistory}
+use Rattle.life_table.specs.Legal.{Awaits, prepare, IsNextKey, KeyReplies, Permits, IsOpen, made_row, row_after, with_changed, after_call, freed}
+use Rattle.life_table.specs.History.{Happens, Leads, same_key, takes_hold, gives_up, holds, IsByHolder, AreByHolders, LegalHistory}
 use Rattle.life_table.specs.WellFormed.{IsTable}
 use Rattle.life_table.proofs.Lives.{inode_of-prepare}
 use Rattle.life_table.proofs.Lookups.{inode_of-with_same, inode_of-with_other}
-use Rattle.life_table.proofs.Moves.{HasRow, HasRow-from}
-use Rattle.life_table.proofs.WellKept.{IsPrepared, IsPrepared-next, IsTable-happens}
+use Rattle.life_table.proofs.Moves.{HasRow-from}
+use Rattle.life_table.proofs.WellKept.{IsPrepared-next, IsTable-happens}
 
 -- how many holds a row counts
 opens_of : Option Row → ℕ

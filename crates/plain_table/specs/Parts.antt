@@ -1,5 +1,5 @@
 -- Parts of a table, as the functions that look at them say it.
-use Rattle.std.specs.Prelude.{◌≡◌, ◌≢◌, ◌==◌, ◌+◌, ◌-◌, ◌/◌, ◌&&◌, ◌||◌, ℕ, Bool, List, Some, nat_le, nat_lt, slice_get, take}
+use Rattle.std.specs.Prelude.{◌≡◌, ◌≢◌, ◌==◌, ◌-◌, ◌/◌, ◌&&◌, ◌||◌, ℕ, Bool, List, Some, nat_le, nat_lt, slice_get, take}
 use Rattle.std.specs.List.{AllByRecursion, list_any}
 use Rattle.life_limits.specs.declared.TheConstants.{BLOCK_SECTORS}
 use Rattle.life_table.specs.declared.table.Inode.{Inode}

@@ -1,6 +1,6 @@
-use Rattle.std.proofs.Common.{◌≡◌, ◌++◌, ◌/◌, ◌<◌, All, take, sym, ap, ◌∙◌, subst, arith}
+use Rattle.std.proofs.Common.{◌≡◌, ◌++◌, ◌/◌, take, arith}
 use Rattle.std.proofs.lemmas.Grind.{common_steps}
-use Rattle.life_limits.specs.declared.TheConstants.{GROUP_NUMBERS, MAX_BLOCKS}
+use Rattle.life_limits.specs.declared.TheConstants.{GROUP_NUMBERS}
 use Rattle.life_table.specs.Table.{group_of}
 use Rattle.life_table.specs.Legal.{free_of}
 use Rattle.plain_table.proofs.Spaces.{grown_below}

@@ -1,8 +1,7 @@
-use Rattle.std.proofs.Common.{◌≡◌, ◌+◌, ◌*◌, ◌≤◌, true, false, Option, Some, None, is_some, slice_get, length, sym, ap, ◌∙◌, arith}
+use Rattle.std.proofs.Common.{◌≡◌, ◌+◌, ◌*◌, Some, slice_get, sym, ◌∙◌, arith}
 use Rattle.std.proofs.lemmas.Grind.{common_steps}
 use Rattle.std.proofs.lemmas.Option.{gets}
-use Rattle.life_table.specs.declared.key.Key.{Key}
-use Rattle.life_table.specs.Space.{keys_from, lowest_key}
+use Rattle.life_table.specs.Space.{keys_from}
 use Rattle.life_limits.specs.declared.TheConstants.{GROUP_NUMBERS}
 use Rattle.plain_table.proofs.Spaces.{lowest-here, lowest-step, lowest-past, none_from, some_from}
 use Rattle.plain_table.proofs.space.find_lowest_key.Goals as goal

@@ -1,5 +1,5 @@
 use Rattle.std.proofs.Common.{◌≡◌, drop}
-use Rattle.life_table.specs.Space.{free_keys, lowest_key}
+use Rattle.life_table.specs.Space.{lowest_key}
 use Rattle.plain_table.proofs.space.find_lowest_key.Given as goal
 
 abbrev pub invariant-loop-chunk : goal.invariant-loop-chunk

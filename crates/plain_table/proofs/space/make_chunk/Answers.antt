@@ -1,5 +1,4 @@
 use Rattle.std.proofs.Common.{◌≡◌, ◌*◌, sym, ap, ◌∙◌, replicate, None, arith}
-use Rattle.life_table.specs.declared.table.Inode.{Inode}
 use Rattle.plain_table.proofs.Spaces.{new_chunk-is}
 use Rattle.plain_table.proofs.space.make_chunk.Goals as goal
 

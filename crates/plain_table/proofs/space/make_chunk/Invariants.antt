@@ -1,5 +1,4 @@
 use Rattle.std.proofs.Common.{◌≡◌, None, replicate}
-use Rattle.life_table.specs.declared.table.Inode.{Inode}
 use Rattle.plain_table.proofs.space.make_chunk.Given as goal
 
 abbrev pub invariant-loop : goal.invariant-loop

@@ -1,4 +1,4 @@
-use Rattle.std.proofs.Common.{◌≡◌, ◌<◌, ◌≤◌, true, false, length, sym, ap, ◌∙◌, subst, None, find, arith}
+use Rattle.std.proofs.Common.{◌≡◌, sym, ◌∙◌, subst, None, find, arith}
 use Rattle.std.specs.List.{range_with_len}
 use Rattle.life_table.specs.Space.{begins_run}
 use Rattle.plain_table.proofs.Spaces.{place-full, place-found, find-more, place-none}

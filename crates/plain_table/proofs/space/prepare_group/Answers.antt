@@ -1,5 +1,4 @@
-use Rattle.std.proofs.Common.{◌≡◌, true, false, Option, Some, None, Result, Ok, Err, IfOk, is_some, if◌then◌else◌, sym, ap, ◌∙◌, subst, arith}
-use Rattle.std.proofs.lemmas.Grind.{common_steps}
+use Rattle.std.proofs.Common.{◌≡◌, true, false, Some, None, is_some, if◌then◌else◌, sym, ap, ◌∙◌}
 use Rattle.life_table.specs.Space.{lowest_key, chunk_place, with_chunk, prepared, insert_chunk}
 use Rattle.plain_table.proofs.Spaces.{prepared-is}
 use Rattle.plain_table.proofs.space.prepare_group.Goals as goal

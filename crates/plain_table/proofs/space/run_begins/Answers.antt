@@ -1,4 +1,4 @@
-use Rattle.std.proofs.Common.{◌≡◌, ◌%◌, true, false, sym, ◌∙◌, subst, arith}
+use Rattle.std.proofs.Common.{◌≡◌, true, sym, ◌∙◌, subst, arith}
 use Rattle.std.specs.List.{list_all, range_with_len}
 use Rattle.life_table.specs.Space.{is_free_block}
 use Rattle.plain_table.proofs.Spaces.{begins-other, begins-not, begins-all, all-more}

@@ -1,4 +1,4 @@
-use Rattle.std.proofs.Common.{sym, ap, ◌∙◌, insert}
+use Rattle.std.proofs.Common.{sym, ◌∙◌, insert}
 use Rattle.plain_table.proofs.Spaces.{insert_chunk-insert}
 use Rattle.plain_table.proofs.space.with_chunk_in_order.Goals as goal
 
