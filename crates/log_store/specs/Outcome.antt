@@ -66,12 +66,12 @@ IsOutcome (Err PositionEnd) old new was job before now = (job ≡ Idle) × (new.
     × ((2 ^ 63 < old.head + sector_count (length new.batch)) ⊎ (2 ^ 63 < old.head + 1))
 IsOutcome (Err (faults.Down fault)) old new was job before now = (job ≡ Idle) × (old.stage ≡ Down fault) × (new ≡ old) × (now ≡ before)
 
--- What a whole job answers in place of its end. The count rose in the job, or the store was down before it.
-abbrev pub IsFault : StoreFault → State → State → ℕ → ℕ → Type 0
-IsFault WriteFault old new before now = Rose before now
-IsFault FlushFault old new before now = Rose before now × (new.stage ≡ Down now)
-IsFault PositionEnd old new before now = (new.stage ≡ Free) × (2 ^ 63 < new.head + 136)
-IsFault (faults.Down fault) old new before now = (old.stage ≡ Down fault) × (new.stage ≡ Down fault) × (now ≡ before)
+-- What a whole job answers in place of its end, with the state after it and the disk's counts before and after it.
+abbrev pub IsFault : StoreFault → State → ℕ → ℕ → Type 0
+IsFault WriteFault new before now = Rose before now
+IsFault FlushFault new before now = Rose before now × (new.stage ≡ Down now)
+IsFault PositionEnd new before now = (new.stage ≡ Free) × ((2 ^ 63 < new.head + sector_count (length new.batch)) ⊎ (2 ^ 63 < new.head + 1))
+IsFault (faults.Down fault) new before now = new.stage ≡ Down fault
 
 -- the count that a store that is down keeps
 abbrev pub down_count : Stage → Option ℕ

@@ -1,11 +1,16 @@
 // Whole jobs.
-ghost use Rattle.std.specs.Prelude.{◌≡◌, ◌+◌, [], false, IfOk, OnOk};
+ghost use Rattle.std.specs.Prelude.{ℕ, ◌≡◌, ◌+◌, List, [], false, IsTrue, IfErr, IfOk, OnOk};
+ghost use Rattle.life_bytes.specs.declared.sector.Sector.{Sector};
+ghost use Rattle.disk_model.specs.Disk.{IsImage};
+ghost use Rattle.log_store.specs.OnDisk.{ReplaysTo};
 ghost use Rattle.log_store.specs.declared.store.Job.TheVariants.{Idle};
-ghost use Rattle.log_store.specs.Outcome.{IsDone};
+ghost use Rattle.log_store.specs.declared.store.Stage.TheVariants.{Down};
+ghost use Rattle.log_store.specs.Outcome.{IsDone, IsFault};
 ghost use Rattle.log_store.specs.State.{state_of};
 ghost use Rattle.log_store.specs.Steps.{Goes, IsStore};
 
 use crate::fault::{Progress, StoreFault};
+use crate::laws::states;
 use crate::store::{Job, Store};
 use disk_model::Disk;
 
@@ -16,6 +21,8 @@ impl<D: Disk> Store<D> {
         ensures goes { Goes D.told D.cells D.sector_count D.moment D.left_since self.old self.new }
         ensures idle { self.new.job ≡ Idle }
         ensures done { OnOk result (IsDone self.old.job (state_of self.new)) }
+        ensures fault { IfErr result (λ fault. IsFault fault (state_of self.new) (D.fault_count self.old.disk) (D.fault_count self.new.disk)) }
+        ensures down { (fault : ℕ) → self.old.stage ≡ Down fault → (result ≡ Err (StoreFault.Down fault)) × (self.new ≡ record self.old { job = Idle }) }
     {
         loop {
             match self.advance()? {
@@ -33,7 +40,13 @@ impl<D: Disk> Store<D> {
         ensures idle { self.new.job ≡ Idle }
         ensures all { OnOk result (self.new.queue.items ≡ []) }
         ensures number { IfOk result (λ number. number ≡ self.new.durable) }
+        // What a stop leaves from then on has every commit: its next commit number is the answer and one.
+        ensures acknowledged { IsTrue D.told → OnOk result ((image : List Sector) → IsImage (D.cells self.new.disk) image
+            → ReplaysTo (state_of self.new) (D.cells self.new.disk) image) }
+        ensures fault { IfErr result (λ fault. IsFault fault (state_of self.new) (D.fault_count self.old.disk) (D.fault_count self.new.disk)) }
+        ensures down { (fault : ℕ) → self.old.stage ≡ Down fault → (result ≡ Err (StoreFault.Down fault)) × (self.new.disk ≡ self.old.disk) }
     {
+        states();
         self.begin(Job::Force);
         self.run()?;
         Ok(self.durable)
@@ -46,6 +59,8 @@ impl<D: Disk> Store<D> {
         ensures goes { Goes D.told D.cells D.sector_count D.moment D.left_since self.old self.new }
         ensures idle { self.new.job ≡ Idle }
         ensures home { OnOk result ((self.new.dirty.images ≡ []) × (self.new.unflushed ≡ false)) }
+        ensures fault { IfErr result (λ fault. IsFault fault (state_of self.new) (D.fault_count self.old.disk) (D.fault_count self.new.disk)) }
+        ensures down { (fault : ℕ) → self.old.stage ≡ Down fault → (result ≡ Err (StoreFault.Down fault)) × (self.new.disk ≡ self.old.disk) }
     {
         self.begin(Job::WriteBack);
         self.run()
@@ -61,6 +76,8 @@ impl<D: Disk> Store<D> {
         ensures goes { Goes D.told D.cells D.sector_count D.moment D.left_since self.old self.new }
         ensures idle { self.new.job ≡ Idle }
         ensures moved { OnOk result (self.new.positions.head ≡ self.new.positions.tail + 1) }
+        ensures fault { IfErr result (λ fault. IsFault fault (state_of self.new) (D.fault_count self.old.disk) (D.fault_count self.new.disk)) }
+        ensures down { (fault : ℕ) → self.old.stage ≡ Down fault → (result ≡ Err (StoreFault.Down fault)) × (self.new.disk ≡ self.old.disk) }
     {
         self.begin(Job::Home);
         self.run()

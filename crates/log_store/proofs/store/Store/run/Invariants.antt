@@ -1,4 +1,5 @@
-use Rattle.std.proofs.Common.{◌≡◌}
+use Rattle.log_store.specs.declared.store.Stage.TheVariants.{Down}
+use Rattle.std.proofs.Common.{◌≡◌, ◌≤◌, ℕ}
 use Rattle.log_store.specs.Outcome.{goal_of, steps_left}
 use Rattle.log_store.specs.State.{state_of}
 use Rattle.log_store.specs.Steps.{Goes}
@@ -8,6 +9,8 @@ abbrev pub invariant-loop : goal.invariant-loop
 invariant-loop g l = record {
   goes : Goes g.D.Disk.told g.D.Disk.cells g.D.Disk.sector_count g.D.Disk.moment g.D.Disk.left_since l.fn.self l.self;
   goal : goal_of l.self.job ≡ goal_of l.fn.self.job;
+  faults : g.D.Disk.fault_count l.fn.self.disk ≤ g.D.Disk.fault_count l.self.disk;
+  down : (fault : ℕ) → l.fn.self.stage ≡ Down fault → l.self ≡ l.fn.self;
 }
 
 abbrev pub decreases-loop : goal.decreases-loop
