@@ -88,7 +88,7 @@ pub record IsStore {D : Type 0} (told : Bool) (cells : D → List Cell) (sector_
   pub holds : IsTrue told → HoldsState (state_of store) (cells store.disk)
 
 -- Some first commits of the list became durable: they left the list, the durable number rose by their number, and the
--- base has their images over it. Nothing else of what is seen moved.
+-- base has their images over it. Where none did, all three stay.
 pub record Moves (told : Bool) (old new : State) (before after : List Cell) : Type 0 where
   pub anchor : new.anchor ≡ old.anchor
   pub ring : new.ring ≡ old.ring
