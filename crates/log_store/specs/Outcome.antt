@@ -1,5 +1,5 @@
 -- What a step of a job answers, and when.
-use Rattle.std.specs.Prelude.{ℕ, ◌≡◌, ◌≢◌, ◌⊎◌, ◌≤◌, ◌<◌, ◌+◌, ◌-◌, ◌*◌, ◌^◌, nat_lt, if◌then◌else◌, false, [], length, Result, Ok, Err, Option, Some, None}
+use Rattle.std.specs.Prelude.{ℕ, ◌≡◌, ◌≢◌, ◌⊎◌, ◌≤◌, ◌<◌, ◌+◌, ◌-◌, ◌*◌, ◌^◌, nat_lt, if◌then◌else◌, false, true, [], length, Result, Ok, Err, Option, Some, None}
 use Rattle.life_ports.specs.Faults.{Rose}
 use Rattle.log_record.specs.Spelling.{sector_count}
 use Rattle.log_store.specs.declared.fault.Progress.{Progress}
@@ -55,13 +55,40 @@ steps_left s job = 600 * length s.list + 2 * length s.dirty + steps_at s.stage j
 abbrev pub HomeFails : State → State → Type 0
 HomeFails old new = (old.dirty ≢ []) × (new.dirty ≡ old.dirty) × (old.stage ≡ Free) × (new.stage ≡ Free)
 
+-- sectors were written home, and none is left that is dirty: a flush comes next
+abbrev pub FlushesHome : State → Type 0
+FlushesHome s = (s.dirty ≡ []) × (s.unflushed ≡ true)
+
+-- whether the step that comes is a flush where nothing is in flight. A force flushes only to make room for the record of
+-- so many images that it gathered.
+abbrev pub FlushesAtRest : Job → State → ℕ → Type 0
+FlushesAtRest Force s images = (s.ring < (s.head - s.tail) + sector_count images + 1) × FlushesHome s
+FlushesAtRest Clear s images = FlushesHome s
+FlushesAtRest Home s images = FlushesHome s
+FlushesAtRest WriteBack s images = FlushesHome s
+FlushesAtRest Nothing s images = ⊥
+FlushesAtRest Idle s images = ⊥
+
+-- whether it is one at a stage: what was written of the log is flushed next
+abbrev pub FlushesAt : Stage → Job → State → ℕ → Type 0
+FlushesAt Free job s images = FlushesAtRest job s images
+FlushesAt Half job s images = ⊥
+FlushesAt Record job s images = Unit {0}
+FlushesAt Cover job s images = Unit {0}
+FlushesAt (Down fault) job s images = ⊥
+
+-- the same, of a step from one state to another; a step that is no flush is a write
+abbrev pub IsFlush : State → State → Job → Type 0
+IsFlush old new job = FlushesAt old.stage job old (length new.batch)
+
 -- What a step answers, with the state and the job before and after it, and the disk's counts of faults. After a failed
 -- write of the log or a failed flush the store is down, with the count then, and answers that and nothing else.
 abbrev pub IsOutcome : Result Progress StoreFault → State → State → Job → Job → ℕ → ℕ → Type 0
 IsOutcome (Ok More) old new was job before now = (goal_of job ≡ goal_of was) × (steps_left new job < steps_left old was) × (before ≤ now)
 IsOutcome (Ok Ended) old new was job before now = (job ≡ Idle) × IsDone was new × (before ≤ now)
-IsOutcome (Err WriteFault) old new was job before now = (job ≡ Idle) × Rose before now × ((new.stage ≡ Down now) ⊎ HomeFails old new)
-IsOutcome (Err FlushFault) old new was job before now = (job ≡ Idle) × Rose before now × (new.stage ≡ Down now)
+IsOutcome (Err WriteFault) old new was job before now =
+    (job ≡ Idle) × Rose before now × ((new.stage ≡ Down now) ⊎ HomeFails old new) × (IsFlush old new was → ⊥)
+IsOutcome (Err FlushFault) old new was job before now = (job ≡ Idle) × Rose before now × (new.stage ≡ Down now) × IsFlush old new was
 IsOutcome (Err PositionEnd) old new was job before now = (job ≡ Idle) × (new.stage ≡ Free) × (new.head ≡ old.head)
     × ((2 ^ 63 < old.head + sector_count (length new.batch)) ⊎ (2 ^ 63 < old.head + 1))
 IsOutcome (Err (faults.Down fault)) old new was job before now = (job ≡ Idle) × (old.stage ≡ Down fault) × (new ≡ old) × (now ≡ before)

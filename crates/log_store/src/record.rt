@@ -197,6 +197,7 @@ impl<D: Disk> Store<D> {
         requires flushed { self.old.unflushed ≡ false }
         requires job { Covering self.old.job }
         ensures goes { Goes D.told D.cells D.sector_count D.moment D.left_since self.old self.new }
+        ensures batch { self.new.batch ≡ self.old.batch }
         ensures outcome { IsOutcome result (state_of self.old) (state_of self.new) self.old.job self.new.job (D.fault_count self.old.disk) (D.fault_count self.new.disk) }
     {
         cover_flights();
