@@ -81,6 +81,37 @@ FlushesAt (Down fault) job s images = ⊥
 abbrev pub IsFlush : State → State → Job → Type 0
 IsFlush old new job = FlushesAt old.stage job old (length new.batch)
 
+-- a cover comes next, and would end past the last position
+abbrev pub CoverEndsPast : State → Type 0
+CoverEndsPast s = (s.dirty ≡ []) × (s.unflushed ≡ false) × (2 ^ 63 < s.head + 1)
+
+-- Where nothing is in flight, the step that comes is the write of a record, a cover included, that would end past the last
+-- position, 2^63. A force gathers a record of so many images first, and comes to a cover only where that has no room.
+abbrev pub EndsPast : Job → State → ℕ → Type 0
+EndsPast Force s images = (s.list ≢ []) × (
+    (((s.head - s.tail) + sector_count images + 1 ≤ s.ring) × (2 ^ 63 < s.head + sector_count images))
+    ⊎ ((s.ring < (s.head - s.tail) + sector_count images + 1) × CoverEndsPast s))
+EndsPast Clear s images = CoverEndsPast s
+EndsPast Home s images = CoverEndsPast s
+EndsPast WriteBack s images = ⊥
+EndsPast Nothing s images = ⊥
+EndsPast Idle s images = ⊥
+
+abbrev pub EndsPastAt : Stage → Job → State → ℕ → Type 0
+EndsPastAt Free job s images = EndsPast job s images
+EndsPastAt Half job s images = ⊥
+EndsPastAt Record job s images = ⊥
+EndsPastAt Cover job s images = ⊥
+EndsPastAt (Down fault) job s images = ⊥
+
+-- that the positions are used up is answered exactly there
+abbrev pub EndsExactly : Result Progress StoreFault → State → State → Job → Type 0
+EndsExactly (Ok progress) old new was = EndsPastAt old.stage was old (length new.batch) → ⊥
+EndsExactly (Err PositionEnd) old new was = EndsPastAt old.stage was old (length new.batch)
+EndsExactly (Err WriteFault) old new was = EndsPastAt old.stage was old (length new.batch) → ⊥
+EndsExactly (Err FlushFault) old new was = EndsPastAt old.stage was old (length new.batch) → ⊥
+EndsExactly (Err (faults.Down fault)) old new was = EndsPastAt old.stage was old (length new.batch) → ⊥
+
 -- What a step answers, with the state and the job before and after it, and the disk's counts of faults. After a failed
 -- write of the log or a failed flush the store is down, with the count then, and answers that and nothing else.
 abbrev pub IsOutcome : Result Progress StoreFault → State → State → Job → Job → ℕ → ℕ → Type 0
@@ -90,7 +121,6 @@ IsOutcome (Err WriteFault) old new was job before now =
     (job ≡ Idle) × Rose before now × ((new.stage ≡ Down now) ⊎ HomeFails old new) × (IsFlush old new was → ⊥)
 IsOutcome (Err FlushFault) old new was job before now = (job ≡ Idle) × Rose before now × (new.stage ≡ Down now) × IsFlush old new was
 IsOutcome (Err PositionEnd) old new was job before now = (job ≡ Idle) × (new.stage ≡ Free) × (new.head ≡ old.head)
-    × ((2 ^ 63 < old.head + sector_count (length new.batch)) ⊎ (2 ^ 63 < old.head + 1))
 IsOutcome (Err (faults.Down fault)) old new was job before now = (job ≡ Idle) × (old.stage ≡ Down fault) × (new ≡ old) × (now ≡ before)
 
 -- What a whole job answers in place of its end, with the state after it and the disk's counts before and after it.

@@ -1,7 +1,7 @@
 // The steps that write logged sectors home.
 ghost use Rattle.std.specs.Prelude.{◌≡◌, ◌≢◌, [], IsTrue};
 ghost use Rattle.log_store.specs.declared.store.Stage.TheVariants.{Free};
-ghost use Rattle.log_store.specs.Outcome.{IsOutcome};
+ghost use Rattle.log_store.specs.Outcome.{EndsExactly, IsOutcome};
 ghost use Rattle.log_store.specs.State.{state_of};
 ghost use Rattle.log_store.specs.Steps.{Goes, IsStore, MovesHome};
 
@@ -20,6 +20,7 @@ impl<D: Disk> Store<D> {
         ensures goes { Goes D.told D.cells D.sector_count D.moment D.left_since self.old self.new }
         ensures batch { self.new.batch ≡ self.old.batch }
         ensures outcome { IsOutcome result (state_of self.old) (state_of self.new) self.old.job self.new.job (D.fault_count self.old.disk) (D.fault_count self.new.disk) }
+        ensures end { EndsExactly result (state_of self.old) (state_of self.new) self.old.job }
     {
         homes();
         let Some(image) = self.dirty.first() else {
@@ -48,6 +49,7 @@ impl<D: Disk> Store<D> {
         ensures goes { Goes D.told D.cells D.sector_count D.moment D.left_since self.old self.new }
         ensures batch { self.new.batch ≡ self.old.batch }
         ensures outcome { IsOutcome result (state_of self.old) (state_of self.new) self.old.job self.new.job (D.fault_count self.old.disk) (D.fault_count self.new.disk) }
+        ensures end { EndsExactly result (state_of self.old) (state_of self.new) self.old.job }
     {
         homes();
         match self.disk.flush() {

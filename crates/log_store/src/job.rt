@@ -2,7 +2,7 @@
 ghost use Rattle.std.specs.Prelude.{ℕ, ◌≡◌, ◌≢◌, []};
 ghost use Rattle.log_store.specs.declared.store.Job.TheVariants.{Force, Home, Idle, Nothing, WriteBack};
 ghost use Rattle.log_store.specs.declared.store.Stage.TheVariants.{Down, Free};
-ghost use Rattle.log_store.specs.Outcome.{IsOutcome};
+ghost use Rattle.log_store.specs.Outcome.{EndsExactly, IsOutcome};
 ghost use Rattle.log_store.specs.State.{state_of};
 ghost use Rattle.log_store.specs.Steps.{Covering, Goes, IsStore};
 
@@ -43,6 +43,7 @@ impl<D: Disk> Store<D> {
         requires store { IsStore D.told D.cells D.sector_count self.old }
         ensures goes { Goes D.told D.cells D.sector_count D.moment D.left_since self.old self.new }
         ensures outcome { IsOutcome result (state_of self.old) (state_of self.new) self.old.job self.new.job (D.fault_count self.old.disk) (D.fault_count self.new.disk) }
+        ensures end { EndsExactly result (state_of self.old) (state_of self.new) self.old.job }
         ensures down { (fault : ℕ) → self.old.stage ≡ Down fault → (result ≡ Err (StoreFault.Down fault)) × (self.new ≡ record self.old { job = Idle }) }
     {
         match self.stage {
@@ -63,6 +64,7 @@ impl<D: Disk> Store<D> {
         requires stage { self.old.stage ≡ Free }
         ensures goes { Goes D.told D.cells D.sector_count D.moment D.left_since self.old self.new }
         ensures outcome { IsOutcome result (state_of self.old) (state_of self.new) self.old.job self.new.job (D.fault_count self.old.disk) (D.fault_count self.new.disk) }
+        ensures end { EndsExactly result (state_of self.old) (state_of self.new) self.old.job }
     {
         match self.job {
             Job::Force => self.force_step(),
@@ -82,6 +84,7 @@ impl<D: Disk> Store<D> {
         requires job { self.old.job ≡ Force }
         ensures goes { Goes D.told D.cells D.sector_count D.moment D.left_since self.old self.new }
         ensures outcome { IsOutcome result (state_of self.old) (state_of self.new) self.old.job self.new.job (D.fault_count self.old.disk) (D.fault_count self.new.disk) }
+        ensures end { EndsExactly result (state_of self.old) (state_of self.new) self.old.job }
     {
         if self.queue.is_empty() {
             self.job = Job::Idle;
@@ -103,6 +106,7 @@ impl<D: Disk> Store<D> {
         ensures goes { Goes D.told D.cells D.sector_count D.moment D.left_since self.old self.new }
         ensures batch { self.new.batch ≡ self.old.batch }
         ensures outcome { IsOutcome result (state_of self.old) (state_of self.new) self.old.job self.new.job (D.fault_count self.old.disk) (D.fault_count self.new.disk) }
+        ensures end { EndsExactly result (state_of self.old) (state_of self.new) self.old.job }
     {
         if !self.dirty.is_empty() {
             return self.write_home();
@@ -120,6 +124,7 @@ impl<D: Disk> Store<D> {
         requires job { self.old.job ≡ WriteBack }
         ensures goes { Goes D.told D.cells D.sector_count D.moment D.left_since self.old self.new }
         ensures outcome { IsOutcome result (state_of self.old) (state_of self.new) self.old.job self.new.job (D.fault_count self.old.disk) (D.fault_count self.new.disk) }
+        ensures end { EndsExactly result (state_of self.old) (state_of self.new) self.old.job }
     {
         if !self.dirty.is_empty() {
             return self.write_home();

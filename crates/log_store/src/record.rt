@@ -7,7 +7,7 @@ ghost use Rattle.log_record.specs.Spelling.{FitsFields, IsRecord, sector_count, 
 ghost use Rattle.log_batch.specs.Newest.{IsBatch, IsCommit};
 ghost use Rattle.log_store.specs.declared.store.Job.TheVariants.{Force, Idle};
 ghost use Rattle.log_store.specs.declared.store.Stage.TheVariants.{Cover, Down, Free, Half, Record};
-ghost use Rattle.log_store.specs.Outcome.{IsOutcome};
+ghost use Rattle.log_store.specs.Outcome.{EndsExactly, IsOutcome};
 ghost use Rattle.log_store.specs.State.{state_of};
 ghost use Rattle.log_store.specs.Steps.{Covering, Goes, IsStore};
 
@@ -104,6 +104,7 @@ impl<D: Disk> Store<D> {
         requires room { (self.old.positions.head - self.old.positions.tail) + self.old.count + 1 ≤ self.old.ring }
         ensures goes { Goes D.told D.cells D.sector_count D.moment D.left_since self.old self.new }
         ensures outcome { IsOutcome result (state_of self.old) (state_of self.new) self.old.job self.new.job (D.fault_count self.old.disk) (D.fault_count self.new.disk) }
+        ensures end { EndsExactly result (state_of self.old) (state_of self.new) self.old.job }
     {
         flights();
         let head = self.positions.head();
@@ -143,6 +144,7 @@ impl<D: Disk> Store<D> {
         requires stage { self.old.stage ≡ Half }
         ensures goes { Goes D.told D.cells D.sector_count D.moment D.left_since self.old self.new }
         ensures outcome { IsOutcome result (state_of self.old) (state_of self.new) self.old.job self.new.job (D.fault_count self.old.disk) (D.fault_count self.new.disk) }
+        ensures end { EndsExactly result (state_of self.old) (state_of self.new) self.old.job }
     {
         flights();
         let part = self.straight();
@@ -165,6 +167,7 @@ impl<D: Disk> Store<D> {
         requires stage { self.old.stage ≡ Record }
         ensures goes { Goes D.told D.cells D.sector_count D.moment D.left_since self.old self.new }
         ensures outcome { IsOutcome result (state_of self.old) (state_of self.new) self.old.job self.new.job (D.fault_count self.old.disk) (D.fault_count self.new.disk) }
+        ensures end { EndsExactly result (state_of self.old) (state_of self.new) self.old.job }
     {
         flights();
         states();
@@ -199,6 +202,7 @@ impl<D: Disk> Store<D> {
         ensures goes { Goes D.told D.cells D.sector_count D.moment D.left_since self.old self.new }
         ensures batch { self.new.batch ≡ self.old.batch }
         ensures outcome { IsOutcome result (state_of self.old) (state_of self.new) self.old.job self.new.job (D.fault_count self.old.disk) (D.fault_count self.new.disk) }
+        ensures end { EndsExactly result (state_of self.old) (state_of self.new) self.old.job }
     {
         cover_flights();
         let head = self.positions.head();
@@ -232,6 +236,7 @@ impl<D: Disk> Store<D> {
         requires stage { self.old.stage ≡ Cover }
         ensures goes { Goes D.told D.cells D.sector_count D.moment D.left_since self.old self.new }
         ensures outcome { IsOutcome result (state_of self.old) (state_of self.new) self.old.job self.new.job (D.fault_count self.old.disk) (D.fault_count self.new.disk) }
+        ensures end { EndsExactly result (state_of self.old) (state_of self.new) self.old.job }
     {
         cover_flights();
         states();
