@@ -14,3 +14,6 @@ mod take;
 pub use begin::begin_store;
 pub use fault::{Progress, StoreFault};
 pub use store::Store;
+
+#[cfg(test)]
+mod tests;
