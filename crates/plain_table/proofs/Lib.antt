@@ -1,3 +1,4 @@
 pub mod Chunks
 pub mod Spaces
 pub mod Outcomes
+pub mod Kept

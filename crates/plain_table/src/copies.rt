@@ -1,6 +1,7 @@
 // Copies of the parts of a table.
 
 ghost use Rattle.std.specs.Prelude.{◌≡◌, IfOk, slice_set};
+ghost use Rattle.plain_table.specs.Beginnings.{with_links};
 
 use life_ports::NoMemory;
 use life_table::{Blocks, Chunk, Group, Inode, Listed, Row};
@@ -22,7 +23,18 @@ pub(crate) fn copy_row(alloc: Global, row: &Row) -> Result<Row, NoMemory>
     })
 }
 
-fn copy_inode(alloc: Global, inode: &Inode) -> Result<Inode, NoMemory>
+/// The row with so many links.
+pub(crate) fn copy_with_links(alloc: Global, row: &Row, links: u32) -> Result<Row, NoMemory>
+    ensures { IfOk result (λ copy. copy ≡ with_links links row.now) }
+{
+    Ok(Row {
+        links,
+        blocks: copy_blocks(alloc, row.blocks.as_slice())?,
+        opens: row.opens,
+    })
+}
+
+pub(crate) fn copy_inode(alloc: Global, inode: &Inode) -> Result<Inode, NoMemory>
     ensures { IfOk result (λ copy. copy ≡ inode.now) }
 {
     let row = match &inode.row {

@@ -94,7 +94,7 @@ pub(crate) fn with_group(
 }
 
 /// The inode of a number of the table.
-fn inode_of(table: &Table, number: u64) -> Option<&Inode>
+pub(crate) fn inode_of(table: &Table, number: u64) -> Option<&Inode>
     ensures { option_copied result ≡ inode_of table.now number }
 {
     let group = group_of(table, number / u64::from(GROUP_NUMBERS));

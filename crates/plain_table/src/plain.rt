@@ -1,15 +1,17 @@
 // The program: a table, and one call after another.
 
-ghost use Rattle.std.specs.Prelude.{◌≡◌, ◌≤◌, ◌↔◌, ◌⊎◌, IfOk, IfSome, IfNone, IsSome, IsSomeAnd, OnErr, IsTrue};
+ghost use Rattle.std.specs.Prelude.{◌≡◌, ◌<◌, ◌≤◌, ◌↔◌, ◌⊎◌, IfOk, IfSome, IfNone, IsSome, IsSomeAnd, OnErr, IsTrue};
 ghost use Rattle.std.specs.Bool.{OnTrue, OnFalse};
 ghost use Rattle.life_table.specs.declared.table.Table.{Table};
-ghost use Rattle.life_table.specs.Table.{row_of, empty_table};
+ghost use Rattle.life_table.specs.Table.{inode_of, row_of, with_inode, with_row, empty_table};
 ghost use Rattle.life_table.specs.Legal.{Awaits, IsOpen, IsOfTable, CanMake, Legal, Frees};
 ghost use Rattle.life_table.specs.WellFormed.{IsTable};
-ghost use Rattle.life_limits.specs.declared.TheConstants.{MAX_BLOCKS, MAX_GROUPS, MIN_BLOCKS, VERSION};
+ghost use Rattle.life_limits.specs.declared.TheConstants.{MAX_BLOCKS, MAX_GENERATION, MAX_GROUPS, MAX_LINKS, MIN_BLOCKS, VERSION};
+ghost use Rattle.plain_table.specs.Beginnings.{with_links, in_life};
 ghost use Rattle.plain_table.specs.Outcomes.{IsOutcome, key_called};
 
-use crate::lookups::{group_of, row_of, with_group, with_inode};
+use crate::copies::{copy_inode, copy_with_links};
+use crate::lookups::{group_of, inode_of, row_of, with_group, with_inode};
 use crate::rows::{RowOutcome, on_row};
 use crate::space::{find_lowest_key, prepare_group};
 use life_limits::VERSION;
@@ -207,6 +209,51 @@ impl PlainTable {
             row: None,
         };
         self.table = with_inode(alloc, &self.table, key.number, inode)?;
+        Ok(true)
+    }
+
+    /// Gives the row of a key so many links at once, and tells whether the key has a row. No call does this: it prepares
+    /// the table that a history begins at. A key without a row changes nothing.
+    #[tactic(auto, using(crate::proofs::Kept::kept_with_links))]
+    pub fn set_links(&mut self, alloc: Global, key: Key, links: u32) -> Result<bool, NoMemory>
+        requires { links ≤ MAX_LINKS }
+        ensures set { IfOk result (λ had. OnTrue had (IsSomeAnd (row_of self.old key) (λ row. self.new ≡ with_row self.old key (with_links links row)))) }
+        ensures none { IfOk result (λ had. OnFalse had ((self.new ≡ self.old) × (row_of self.old key ≡ None))) }
+        ensures err { OnErr result (self.new ≡ self.old) }
+    {
+        let Some(row) = row_of(&self.table, key) else {
+            return Ok(false);
+        };
+        let inode = Inode {
+            generation: key.generation,
+            row: Some(copy_with_links(alloc, row, links)?),
+        };
+        self.table = with_inode(alloc, &self.table, key.number, inode)?;
+        Ok(true)
+    }
+
+    /// Brings the inode of a number into the life of this generation at once, with the row that it has, and tells whether
+    /// a chunk has the number. No call does this: it prepares the table that a history begins at. A number of no chunk
+    /// changes nothing.
+    #[tactic(auto, using(crate::proofs::Kept::kept_in_life))]
+    pub fn set_generation(
+        &mut self,
+        alloc: Global,
+        number: u64,
+        generation: u32,
+    ) -> Result<bool, NoMemory>
+        requires first { 1 ≤ generation }
+        requires last { generation < MAX_GENERATION }
+        ensures set { IfOk result (λ had. OnTrue had (IsSomeAnd (inode_of self.old number) (λ inode. self.new ≡ with_inode self.old number (in_life generation inode)))) }
+        ensures none { IfOk result (λ had. OnFalse had ((self.new ≡ self.old) × (inode_of self.old number ≡ None))) }
+        ensures err { OnErr result (self.new ≡ self.old) }
+    {
+        let Some(inode) = inode_of(&self.table, number) else {
+            return Ok(false);
+        };
+        let Inode { row, .. } = copy_inode(alloc, inode)?;
+        let inode = Inode { generation, row };
+        self.table = with_inode(alloc, &self.table, number, inode)?;
         Ok(true)
     }
 }

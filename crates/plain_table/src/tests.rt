@@ -1,9 +1,7 @@
 use super::*;
-use crate::rows::on_row;
-use crate::space::find_lowest_key;
 use extent_fork::Extent;
 use life_ports::NoMemory;
-use life_table::{Call, Chunk, Inode, Key, Listed, Reply, Row, Table};
+use life_table::{Call, Key, Reply};
 use std::alloc::Global;
 use std::test::Fail;
 
@@ -252,42 +250,41 @@ fn links_and_blocks(rt: HostRuntime) -> Result<(), Fail> {
         (unlink(a), "no links"),
     ];
     assert_eq!(rt; first_other(rt.alloc(), &mut plain, &lines)?, None);
-    Ok(())
-}
 
-#[test]
-fn too_many_links(rt: HostRuntime) -> Result<(), Fail> {
-    let table = Table {
-        version: 1,
-        blocks: 64,
-        groups: Listed::new(rt.alloc()),
-    };
-    let row = Row {
-        links: 2_147_483_647,
-        blocks: Listed::new(rt.alloc()),
-        opens: 1,
-    };
-    let a = key(192, 1);
-    let linked = on_row(rt.alloc(), &table, &row, &link(a))?;
-    assert!(rt; matches!(linked.reply, Reply::TooManyLinks));
-    let unlinked = on_row(rt.alloc(), &table, &row, &unlink(a))?;
-    assert!(rt; matches!(unlinked.reply, Reply::Done));
+    let mut plain = PlainTable::new(rt.alloc(), 1, 64)?;
+    let lines = [(create(), "ok 192.1"), (close(a), "ok")];
+    assert_eq!(rt; first_other(rt.alloc(), &mut plain, &lines)?, None);
+    assert!(rt; plain.set_links(rt.alloc(), a, 2_147_483_647)?);
+    let lines = [
+        (open(a), "ok"),
+        (stat(a), "links 2147483647 blocks 0 runs"),
+        (link(a), "too many links"),
+        (unlink(a), "ok"),
+        (stat(a), "links 2147483646 blocks 0 runs"),
+    ];
+    assert_eq!(rt; first_other(rt.alloc(), &mut plain, &lines)?, None);
+    assert!(rt; !plain.set_links(rt.alloc(), key(193, 1), 1)?);
     Ok(())
 }
 
 #[test]
 fn last_generation(rt: HostRuntime) -> Result<(), Fail> {
-    let mut inodes = Vec::new(rt.alloc());
-    for generation in [4_294_967_295, 1] {
-        inodes.push(Inode {
-            generation,
-            row: None,
-        })?;
-    }
-    let chunk = Chunk {
-        start: 192,
-        inodes: Listed::from_vec(inodes),
-    };
-    assert_eq!(rt; find_lowest_key(0, &[chunk]), Some(key(193, 1)));
+    let a = key(192, 4_294_967_294);
+    let first = key(192, 1);
+    let mut plain = PlainTable::new(rt.alloc(), 1, 64)?;
+    let lines = [(create(), "ok 192.1"), (close(first), "ok")];
+    assert_eq!(rt; first_other(rt.alloc(), &mut plain, &lines)?, None);
+    assert!(rt; plain.set_generation(rt.alloc(), 192, 4_294_967_294)?);
+    let lines = [
+        (open(first), "stale"),
+        (open(a), "ok"),
+        (unlink(a), "ok"),
+        (close(a), "ok"),
+    ];
+    assert_eq!(rt; first_other(rt.alloc(), &mut plain, &lines)?, None);
+    assert!(rt; plain.free(rt.alloc(), a)?);
+    let lines = [(Call::Gc, "ok"), (create(), "ok 193.1"), (open(a), "stale")];
+    assert_eq!(rt; first_other(rt.alloc(), &mut plain, &lines)?, None);
+    assert!(rt; !plain.set_generation(rt.alloc(), 256, 1)?);
     Ok(())
 }
