@@ -16,8 +16,8 @@ use crate::store::Job;
 use disk_model::{Disk, MemoryDisk};
 use life_bytes::Sector;
 use life_ports::NoMemory;
-use log_image::{Anchor, logs, write_anchor};
-use log_record::{Commit, Image, ImageList};
+use log_image::{Anchor, logs, read_anchor, write_anchor};
+use log_record::{Commit, Image, ImageList, read_record};
 use std::alloc::Global;
 use std::test::Fail;
 
@@ -141,6 +141,224 @@ fn force<D: Disk>(store: &mut Store<D>) -> Result<Result<u64, StoreFault>, Fail>
     Ok(store.force())
 }
 
+/// A commit of the run that is stopped at its device calls: the sectors that it writes, and
+/// whether it is forced before the next one is taken.
+#[derive(Clone, Copy)]
+struct Row {
+    first: u64,
+    count: u64,
+    forced: bool,
+}
+
+/// The sixth commit finds no room for its record, which then passes the ring's end; the seventh has a record of its own.
+const ROWS: [Row; 7] = [
+    Row {
+        first: 5,
+        count: 1,
+        forced: true,
+    },
+    Row {
+        first: 7,
+        count: 3,
+        forced: false,
+    },
+    Row {
+        first: 8,
+        count: 1,
+        forced: true,
+    },
+    Row {
+        first: 1,
+        count: 128,
+        forced: true,
+    },
+    Row {
+        first: 100,
+        count: 1,
+        forced: true,
+    },
+    Row {
+        first: 1,
+        count: 128,
+        forced: false,
+    },
+    Row {
+        first: 200,
+        count: 3,
+        forced: true,
+    },
+];
+
+/// Takes the commit of a row, whose sectors are filled with its number.
+fn take_row<D: Disk>(alloc: Global, store: &mut Store<D>, row: usize) -> Result<(), Fail>
+    requires store { IsStore D.told D.cells D.sector_count store.old }
+    ensures { IsStore D.told D.cells D.sector_count store.new }
+{
+    let Row { first, count, .. } = *ROWS.get(row).ok_or("no row")?;
+    take(store, commit(alloc, first, count, (row % 250) as u8 + 1)?)
+}
+
+/// Goes on with a store's job for so many steps at most, and answers how many are left, if it ended.
+fn steps<D: Disk>(store: &mut Store<D>, most: u64) -> Result<Option<u64>, StoreFault>
+    requires store { IsStore D.told D.cells D.sector_count store.old }
+    ensures { IsStore D.told D.cells D.sector_count store.new }
+{
+    for used in 0..most {
+        if store.advance()? == Progress::Ended {
+            return Ok(Some(most - used - 1));
+        }
+    }
+    Ok(None)
+}
+
+/// Begins a force of a store that has no job.
+fn begin_force<D: Disk>(store: &mut Store<D>) -> Result<(), Fail>
+    requires { IsStore D.told D.cells D.sector_count store.old }
+    ensures { IsStore D.told D.cells D.sector_count store.new }
+{
+    if store.job != Job::Idle {
+        return Err("a job is going".into());
+    }
+    store.begin_force();
+    Ok(())
+}
+
+/// What a run came to when it was stopped: how many commits were taken, how many were acknowledged by a force, and
+/// whether it was at its end.
+#[derive(Clone, Copy, Debug, PartialEq, Eq)]
+struct Stopped {
+    taken: u64,
+    acknowledged: u64,
+    ended: bool,
+}
+
+/// Takes and forces the rows' commits, and stops after so many steps.
+fn run<D: Disk>(alloc: Global, store: &mut Store<D>, most: u64) -> Result<Stopped, Fail>
+    requires { IsStore D.told D.cells D.sector_count store.old }
+{
+    let mut left = most;
+    let mut acknowledged = 0;
+    for row in 0..ROWS.len() {
+        let taken = row as u64 + 1;
+        take_row(alloc, store, row)?;
+        if ROWS[row].forced {
+            begin_force(store)?;
+            match steps(store, left) {
+                Ok(Some(rest)) => left = rest,
+                Ok(None) => {
+                    return Ok(Stopped {
+                        taken,
+                        acknowledged,
+                        ended: false,
+                    });
+                }
+                Err(_) => return Err("a fault".into()),
+            }
+            acknowledged = taken;
+        }
+    }
+    Ok(Stopped {
+        taken: 7,
+        acknowledged,
+        ended: true,
+    })
+}
+
+/// The sectors of a disk as it reads.
+fn sectors_of(alloc: Global, disk: &MemoryDisk) -> Result<Vec<Sector>, NoMemory> {
+    let mut sectors = Vec::new(alloc);
+    for at in 0..disk.sectors() {
+        sectors.push(disk.sector(at))?;
+    }
+    Ok(sectors)
+}
+
+/// The sectors of the groups as the log of an image leaves them, and the number of its last commit.
+#[derive(Drop)]
+struct Replayed {
+    groups: Vec<Sector>,
+    commits: u64,
+}
+
+/// The position of the first record that counts, where none is whole but from this position on.
+fn first_position(alloc: Global, ring: &[Sector], position: u64) -> Result<u64, NoMemory> {
+    let mut first = position;
+    for ahead in 0..512u64 {
+        if let Some(item) = read_record(alloc, ring, position.saturating_add(ahead))? {
+            first = item.tail;
+        }
+    }
+    Ok(first)
+}
+
+/// Puts images over sectors.
+fn put_images(groups: &mut [Sector], images: &[Image]) {
+    for image in images {
+        if let Some(sector) = groups.get_mut(image.home as usize) {
+            *sector = image.sector;
+        }
+    }
+}
+
+/// Reads an image's log from its anchor on, record by record.
+fn replay(alloc: Global, image: &[Sector]) -> Result<Replayed, Fail> {
+    let anchor = read_anchor(image.get(512).ok_or("no anchor")?).ok_or("another anchor")?;
+    let ring = image.get(513..769).ok_or("no ring")?;
+    let mut groups = Vec::from_slice(alloc, image.get(..512).ok_or("no groups")?)?;
+    let mut next = anchor.next_commit;
+    let mut position = first_position(alloc, ring, anchor.position)?;
+    for _ in 0..256 {
+        if let Some(item) = read_record(alloc, ring, position)? {
+            put_images(&mut groups, item.images.as_slice());
+            next = item.first.saturating_add(item.commits as u64);
+            let bytes = (item.images.len() as u64)
+                .saturating_mul(520)
+                .saturating_add(32);
+            position = position.saturating_add(bytes.div_ceil(496));
+        }
+    }
+    Ok(Replayed {
+        groups,
+        commits: next.saturating_sub(1),
+    })
+}
+
+/// What the sector of a group is filled with after so many of the rows' commits.
+fn filled(home: u64, commits: u64) -> u8 {
+    let mut byte = 0;
+    for (i, row) in ROWS.iter().enumerate() {
+        if (i as u64) < commits && row.first <= home && home - row.first < row.count {
+            byte = (i % 250) as u8 + 1;
+        }
+    }
+    byte
+}
+
+/// Whether the sectors of the groups are as that many of the rows' commits leave them.
+fn are_filled(replayed: &Replayed) -> bool {
+    for (home, sector) in replayed.groups.iter().enumerate() {
+        let byte = filled(home as u64, replayed.commits);
+        if sector.bytes != [byte; 512] {
+            return false;
+        }
+    }
+    true
+}
+
+/// Runs so many steps, stops the disk, with a choice of what is left or as it reads, and answers whether that replays to
+/// the commits that it has to have; and whether the run was at its end.
+fn stop_after(alloc: Global, most: u64, choice: Option<u64>) -> Result<(bool, bool), Fail> {
+    let mut store = empty_store(alloc, 512, 256)?;
+    let stopped = run(alloc, &mut store, most)?;
+    let mut disk = store.into_disk();
+    if let Some(choice) = choice {
+        disk.pick(choice);
+    }
+    let replayed = replay(alloc, &sectors_of(alloc, &disk)?)?;
+    let within = stopped.acknowledged <= replayed.commits && replayed.commits <= stopped.taken;
+    Ok((within && are_filled(&replayed), stopped.ended))
+}
+
 #[test]
 fn a_thousand_forces_go_round_the_ring(rt: HostRuntime) -> Result<(), Fail> {
     let mut store = empty_store(rt.alloc(), 512, 256)?;
@@ -153,5 +371,25 @@ fn a_thousand_forces_go_round_the_ring(rt: HostRuntime) -> Result<(), Fail> {
     }
     assert_eq!(rt; store.durable(), 1000);
     assert!(rt; store.positions.head() > 2256);
+    Ok(())
+}
+
+/// The numbers of steps after which the run is stopped: all but most of those that write sectors home.
+fn is_stop(most: u64) -> bool {
+    most < 16 || 134 <= most || most % 32 == 0
+}
+
+#[test]
+fn a_stop_leaves_some_first_commits(rt: HostRuntime) -> Result<(), Fail> {
+    let choices = [None, Some(0), Some(u64::MAX), Some(0x5555_5555_5555_5555)];
+    for most in 0..146 {
+        if is_stop(most) {
+            for choice in choices {
+                let (right, ended) = stop_after(rt.alloc(), most, choice)?;
+                assert!(rt; right, "after {most} steps, {choice:?}");
+                assert_eq!(rt; ended, most >= 144, "after {most} steps");
+            }
+        }
+    }
     Ok(())
 }
