@@ -5,6 +5,7 @@ ghost use Rattle.std.specs.List.Sorted.{IsStrictlyIncreasing};
 ghost use Rattle.life_bytes.specs.Sectors.{zero_sector};
 ghost use Rattle.disk_model.specs.Disk.{settled_as};
 ghost use Rattle.disk_model.specs.MemoryDisk.{cells_of, fresh};
+ghost use Rattle.disk_model.specs.FaultDisk.{inner_of};
 ghost use Rattle.log_image.specs.Anchor.{anchor_sector};
 ghost use Rattle.log_image.specs.Log.{IsGroupImage};
 ghost use Rattle.log_batch.specs.Newest.{IsCommit, homes};
@@ -13,7 +14,7 @@ ghost use Rattle.log_store.specs.Steps.{IsStore};
 
 use super::*;
 use crate::store::Job;
-use disk_model::{Disk, MemoryDisk};
+use disk_model::{Disk, FaultDisk, MemoryDisk};
 use life_bytes::Sector;
 use life_ports::NoMemory;
 use log_image::{Anchor, logs, read_anchor, write_anchor};
@@ -75,6 +76,22 @@ fn empty_store(alloc: Global, groups: u32, ring: u32) -> Result<Store<MemoryDisk
     ensures { IfOk result (IsStore true cells_of (λ disk. length (cells_of disk))) }
 {
     store_on(alloc, empty_disk(alloc, groups, ring)?, groups, ring)
+}
+
+/// A store over such a disk, of which one device call fails.
+fn failing_store(
+    alloc: Global,
+    groups: u32,
+    ring: u32,
+    call: u64,
+) -> Result<Store<FaultDisk<MemoryDisk>>, NoMemory>
+    requires least { 256 ≤ ring }
+    requires most { ring ≤ 65536 }
+    ensures { IfOk result (IsStore true (λ disk. cells_of (inner_of disk)) (λ disk. length (cells_of (inner_of disk)))) }
+{
+    let fails = vec![in alloc; call]?;
+    let disk = FaultDisk::new(empty_disk(alloc, groups, ring)?, fails);
+    store_on(alloc, disk, groups, ring)
 }
 
 /// A commit of sectors one after the other, each filled with a byte.
@@ -141,7 +158,7 @@ fn force<D: Disk>(store: &mut Store<D>) -> Result<Result<u64, StoreFault>, Fail>
     Ok(store.force())
 }
 
-/// A commit of the run that is stopped at its device calls: the sectors that it writes, and
+/// A commit of the run that is stopped, and made to fail, at its device calls: the sectors that it writes, and
 /// whether it is forced before the next one is taken.
 #[derive(Clone, Copy)]
 struct Row {
@@ -389,6 +406,112 @@ fn a_stop_leaves_some_first_commits(rt: HostRuntime) -> Result<(), Fail> {
                 assert!(rt; right, "after {most} steps, {choice:?}");
                 assert_eq!(rt; ended, most >= 144, "after {most} steps");
             }
+        }
+    }
+    Ok(())
+}
+
+/// Writes the sectors of a store that has no job home.
+fn write_back<D: Disk>(store: &mut Store<D>) -> Result<Result<(), StoreFault>, Fail>
+    requires { IsStore D.told D.cells D.sector_count store.old }
+    ensures { IsStore D.told D.cells D.sector_count store.new }
+{
+    if store.job != Job::Idle {
+        return Err("a job is going".into());
+    }
+    Ok(store.write_back())
+}
+
+/// Takes and forces the rows' commits and writes them home, up to the first fault.
+fn run_to_fault<D: Disk>(alloc: Global, store: &mut Store<D>) -> Result<Option<StoreFault>, Fail>
+    requires { IsStore D.told D.cells D.sector_count store.old }
+    ensures { IsStore D.told D.cells D.sector_count store.new }
+{
+    for row in 0..ROWS.len() {
+        take_row(alloc, store, row)?;
+        if ROWS[row].forced {
+            if let Err(fault) = force(store)? {
+                return Ok(Some(fault));
+            }
+        }
+    }
+    Ok(write_back(store)?.err())
+}
+
+/// What became of a store of which a device call failed.
+#[derive(Clone, Copy, Debug, PartialEq, Eq)]
+enum Fate {
+    /// Nothing failed.
+    Well,
+    /// It went on, and made all durable and wrote all home.
+    GoesOn,
+    /// It is down from a write on.
+    Written,
+    /// It is down from a flush on.
+    Flushed,
+    /// None of these.
+    Other,
+}
+
+/// What became of a store after this fault.
+fn fate_after<D: Disk>(store: &mut Store<D>, fault: StoreFault) -> Result<Fate, Fail>
+    requires { IsStore D.told D.cells D.sector_count store.old }
+{
+    let stop = store.stop_state();
+    let forced = force(store)?;
+    let written = write_back(store)?;
+    let rest = store.pending() || store.dirty();
+    let down = StoreFault::Down { fault: 1 };
+    let answers = (stop, forced, written);
+    if answers == (None, Ok(7), Ok(())) && !rest && fault == StoreFault::WriteFault {
+        return Ok(Fate::GoesOn);
+    }
+    if answers != (Some(1), Err(down), Err(down)) {
+        return Ok(Fate::Other);
+    }
+    Ok(match fault {
+        StoreFault::WriteFault => Fate::Written,
+        StoreFault::FlushFault => Fate::Flushed,
+        _ => Fate::Other,
+    })
+}
+
+/// What becomes of a store of which this device call fails.
+fn fate_at(alloc: Global, call: u64) -> Result<Fate, Fail> {
+    let mut store = failing_store(alloc, 512, 256, call)?;
+    match run_to_fault(alloc, &mut store)? {
+        Some(fault) => fate_after(&mut store, fault),
+        None => Ok(Fate::Well),
+    }
+}
+
+#[test]
+fn each_device_call_fails_in_turn(rt: HostRuntime) -> Result<(), Fail> {
+    // The device calls from a first to a last one, and what becomes of a store of which one of them fails.
+    let calls = [
+        (1, 1, Fate::Written),
+        (2, 2, Fate::Flushed),
+        (3, 3, Fate::Written),
+        (4, 4, Fate::Flushed),
+        (5, 5, Fate::Written),
+        (6, 6, Fate::Flushed),
+        (7, 7, Fate::Written),
+        (8, 8, Fate::Flushed),
+        (9, 136, Fate::GoesOn),
+        (137, 137, Fate::Flushed),
+        (138, 138, Fate::Written),
+        (139, 139, Fate::Flushed),
+        (140, 141, Fate::Written),
+        (142, 142, Fate::Flushed),
+        (143, 143, Fate::Written),
+        (144, 144, Fate::Flushed),
+        (145, 275, Fate::GoesOn),
+        (276, 276, Fate::Flushed),
+        (277, 277, Fate::Well),
+    ];
+    for (first, last, fate) in calls {
+        for call in first..=last {
+            assert_eq!(rt; fate_at(rt.alloc(), call)?, fate, "call {call}");
         }
     }
     Ok(())
