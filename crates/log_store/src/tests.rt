@@ -1,5 +1,5 @@
 // Whole jobs over disks in memory.
-ghost use Rattle.std.specs.Prelude.{◌≡◌, ◌≤◌, ◌<◌, ◌+◌, [], IsTrue, IfOk, replicate, slice_set, length, true};
+ghost use Rattle.std.specs.Prelude.{◌≡◌, ◌≤◌, ◌+◌, IsTrue, IfOk, replicate, slice_set, length, true};
 ghost use Rattle.std.specs.List.{All};
 ghost use Rattle.std.specs.List.Sorted.{IsStrictlyIncreasing};
 ghost use Rattle.life_bytes.specs.Sectors.{zero_sector};
@@ -9,7 +9,6 @@ ghost use Rattle.disk_model.specs.FaultDisk.{inner_of};
 ghost use Rattle.log_image.specs.Anchor.{anchor_sector};
 ghost use Rattle.log_image.specs.Log.{IsGroupImage};
 ghost use Rattle.log_batch.specs.Newest.{IsCommit, homes};
-ghost use Rattle.log_store.specs.declared.store.Job.TheVariants.{Idle};
 ghost use Rattle.log_store.specs.Steps.{IsStore};
 
 use super::*;
@@ -391,18 +390,19 @@ fn a_thousand_forces_go_round_the_ring(rt: HostRuntime) -> Result<(), Fail> {
     Ok(())
 }
 
-/// The numbers of steps after which the run is stopped: all but most of those that write sectors home.
-fn is_stop(most: u64) -> bool {
-    most < 16 || 134 <= most || most % 32 == 0
+/// Whether the run is stopped after so many steps with the choice at this place: with one of the four where sectors are
+/// written home, and else with each.
+fn is_tried(most: u64, place: usize) -> bool {
+    most < 16 || 134 <= most || most % 4 == place as u64
 }
 
 #[test]
 fn a_stop_leaves_some_first_commits(rt: HostRuntime) -> Result<(), Fail> {
     let choices = [None, Some(0), Some(u64::MAX), Some(0x5555_5555_5555_5555)];
     for most in 0..146 {
-        if is_stop(most) {
-            for choice in choices {
-                let (right, ended) = stop_after(rt.alloc(), most, choice)?;
+        for (place, choice) in choices.iter().enumerate() {
+            if is_tried(most, place) {
+                let (right, ended) = stop_after(rt.alloc(), most, *choice)?;
                 assert!(rt; right, "after {most} steps, {choice:?}");
                 assert_eq!(rt; ended, most >= 144, "after {most} steps");
             }
