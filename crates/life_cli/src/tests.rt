@@ -321,7 +321,7 @@ fn finds_between(alloc: Global, written: &str, least: u64, most: u64) -> Result<
     Ok(false)
 }
 
-// Each call of the disk fails in turn, from the last read of the mount on, and a stop leaves each of what it may.
+// Each call of the disk fails in turn, and a stop leaves each of what it may.
 #[test]
 fn a_stop_leaves_a_prefix_that_holds_what_was_acknowledged(rt: HostRuntime) -> Result<(), Fail> {
     let alloc = rt.alloc();
@@ -331,7 +331,7 @@ fn a_stop_leaves_a_prefix_that_holds_what_was_acknowledged(rt: HostRuntime) -> R
         "mount\ncreate 0 a\ncreate 0 b\nsync\nsync\ncreate 0 c\nsync\n",
     ];
     for script in scripts {
-        for fails_at in 72..79 {
+        for fails_at in 1..79 {
             for choice in 0..16 {
                 let mut images = one_disk(alloc, 72, vec![in alloc; fails_at]?)?;
                 let ended = run_words(alloc, &mut images, &["steps", "disk"], script)?;

@@ -152,7 +152,7 @@ fn no_revival(rt: HostRuntime) -> Result<(), Fail> {
     assert_eq!(rt; first_other(rt.alloc(), &mut plain, &lines)?, None);
     assert!(rt; plain.free(rt.alloc(), a)?);
     assert!(rt; !plain.free(rt.alloc(), a)?);
-    let lines = [(create(), "ok 192.2"), (open(a), "stale")];
+    let lines = [(Call::Gc, "ok"), (create(), "ok 192.2"), (open(a), "stale")];
     assert_eq!(rt; first_other(rt.alloc(), &mut plain, &lines)?, None);
     Ok(())
 }
@@ -177,6 +177,7 @@ fn full_group(rt: HostRuntime) -> Result<(), Fail> {
         (stat(a), "links 1 blocks 32 runs 52+12 32+20"),
         (grow(a, 1), "no space"),
         (create(), "ok 193.2"),
+        (Call::Gc, "ok"),
     ];
     assert_eq!(rt; first_other(rt.alloc(), &mut plain, &lines)?, None);
     Ok(())

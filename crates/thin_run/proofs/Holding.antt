@@ -34,8 +34,9 @@ use Rattle.thin_run.specs.Story.{FaultState, ReplyCause}
 use Rattle.thin_run.specs.Table.{Table, key_at}
 use Rattle.thin_run.specs.Thin.{StandsAt, RowsOf, table_of}
 use Rattle.thin_run.specs.Wherever.{IsPrefix}
+use Rattle.thin_run.proofs.Homes.{length-spelled}
 use Rattle.thin_run.proofs.Tables.{After-all, fold-table_of}
-use Rattle.thin_run.proofs.Torn.{all_or_one, partly_over, same_homes, has_sectors, written_sectors, length-spelled}
+use Rattle.thin_run.proofs.Torn.{all_or_one, partly_over, same_homes, has_sectors, written_sectors}
 
 -- what is known of logs and of inode sectors
 pub record ThinLaws : Type 0 where

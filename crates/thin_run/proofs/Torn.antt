@@ -3,7 +3,7 @@ use Rattle.std.proofs.Common.{◌≡◌, ◌≤◌, ◌<◌, ◌+◌, ◌-◌, �
 use Rattle.std.proofs.Math.Nat.{add-mod_left, mod-eq_of_lt}
 use Rattle.std.proofs.lemmas.Bool.{cases_lt}
 use Rattle.std.proofs.lemmas.List.{get_or-drop, get_or-take, length-drop, length-take-le, get_or_append_left, get_or-append-add}
-use Rattle.std.proofs.lemmas.List.FromFn.{get_or-map-range_with_len, length-map-range_with_len}
+use Rattle.std.proofs.lemmas.List.FromFn.{get_or-map-range_with_len}
 use Rattle.life_bytes.specs.declared.sector.Sector.{Sector}
 use Rattle.disk_model.specs.Disk.{Cell, as_read, written}
 use Rattle.disk_model.specs.DiskLaws.{IsTorn, length-torn, length-as_read, as_read-written}
@@ -12,6 +12,7 @@ use Rattle.log_record.specs.Spelling.{sector_at, sector_count, spelled}
 use Rattle.log_record.specs.Whole.{at_place}
 use Rattle.thin_image.specs.NextRecord.{IsPartlyOver, SameAt, HasSector}
 use Rattle.thin_image.specs.Replay.{homes, ring_part}
+use Rattle.thin_run.proofs.Homes.{length-spelled}
 
 -- in front of the write nothing changed
 torn_before : (at : ℕ) (pieces old new : List Sector) → IsTorn at pieces old new → (j : ℕ) (d : Sector) → j < at → get_or new j d ≡ get_or old j d
@@ -76,10 +77,6 @@ at_ring image ring position k d size is lt =
 get_or-spelled : (item : LogRecord) (i : ℕ) (d : Sector) → i < sector_count (length item.images) → get_or (spelled item) i d ≡ sector_at item i
 unfolding spelled
 get_or-spelled item i d lt = get_or-map-range_with_len (sector_at item) 0 (sector_count (length item.images)) i i d lt (omega arith)
-
-pub length-spelled : (item : LogRecord) → length (spelled item) ≡ sector_count (length item.images)
-unfolding spelled
-length-spelled item = length-map-range_with_len (sector_at item) 0 (sector_count (length item.images))
 
 -- the write of a record into the ring of an image leaves the rings of both so
 pub partly_over : (old new : List Sector) (item : LogRecord) (ring place : ℕ) → ring ≡ length (ring_part old) → 0 < ring → item.position ≡ ring + place
