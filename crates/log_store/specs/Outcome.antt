@@ -112,6 +112,15 @@ EndsExactly (Err WriteFault) old new was = EndsPastAt old.stage was old (length 
 EndsExactly (Err FlushFault) old new was = EndsPastAt old.stage was old (length new.batch) → ⊥
 EndsExactly (Err (faults.Down fault)) old new was = EndsPastAt old.stage was old (length new.batch) → ⊥
 
+-- Where a step leaves the head and the tail. A record that is flushed moves the head behind it, and a cover that is
+-- flushed moves both; no other step moves either.
+abbrev pub MovesPositions : Stage → State → State → Type 0
+MovesPositions Record old new = (new.tail ≡ old.tail) × ((new.head ≡ old.head) ⊎ (new.head ≡ old.head + sector_count (length old.batch)))
+MovesPositions Cover old new = ((new.tail ≡ old.tail) × (new.head ≡ old.head)) ⊎ ((new.tail ≡ old.head) × (new.head ≡ old.head + 1))
+MovesPositions Free old new = (new.tail ≡ old.tail) × (new.head ≡ old.head)
+MovesPositions Half old new = (new.tail ≡ old.tail) × (new.head ≡ old.head)
+MovesPositions (Down fault) old new = (new.tail ≡ old.tail) × (new.head ≡ old.head)
+
 -- What a step answers, with the state and the job before and after it, and the disk's counts of faults. After a failed
 -- write of the log or a failed flush the store is down, with the count then, and answers that and nothing else.
 abbrev pub IsOutcome : Result Progress StoreFault → State → State → Job → Job → ℕ → ℕ → Type 0

@@ -1,7 +1,7 @@
 // The steps that write logged sectors home.
 ghost use Rattle.std.specs.Prelude.{◌≡◌, ◌≢◌, [], IsTrue};
 ghost use Rattle.log_store.specs.declared.store.Stage.TheVariants.{Free};
-ghost use Rattle.log_store.specs.Outcome.{EndsExactly, IsOutcome};
+ghost use Rattle.log_store.specs.Outcome.{EndsExactly, IsOutcome, MovesPositions};
 ghost use Rattle.log_store.specs.State.{state_of};
 ghost use Rattle.log_store.specs.Steps.{Goes, IsStore, MovesHome};
 
@@ -21,6 +21,7 @@ impl<D: Disk> Store<D> {
         ensures batch { self.new.batch ≡ self.old.batch }
         ensures outcome { IsOutcome result (state_of self.old) (state_of self.new) self.old.job self.new.job (D.fault_count self.old.disk) (D.fault_count self.new.disk) }
         ensures end { EndsExactly result (state_of self.old) (state_of self.new) self.old.job }
+        ensures positions { MovesPositions self.old.stage (state_of self.old) (state_of self.new) }
     {
         homes();
         let Some(image) = self.dirty.first() else {
@@ -50,6 +51,7 @@ impl<D: Disk> Store<D> {
         ensures batch { self.new.batch ≡ self.old.batch }
         ensures outcome { IsOutcome result (state_of self.old) (state_of self.new) self.old.job self.new.job (D.fault_count self.old.disk) (D.fault_count self.new.disk) }
         ensures end { EndsExactly result (state_of self.old) (state_of self.new) self.old.job }
+        ensures positions { MovesPositions self.old.stage (state_of self.old) (state_of self.new) }
     {
         homes();
         match self.disk.flush() {

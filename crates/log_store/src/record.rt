@@ -7,7 +7,7 @@ ghost use Rattle.log_record.specs.Spelling.{FitsFields, IsRecord, sector_count, 
 ghost use Rattle.log_batch.specs.Newest.{IsBatch, IsCommit};
 ghost use Rattle.log_store.specs.declared.store.Job.TheVariants.{Force, Idle};
 ghost use Rattle.log_store.specs.declared.store.Stage.TheVariants.{Cover, Down, Free, Half, Record};
-ghost use Rattle.log_store.specs.Outcome.{EndsExactly, IsOutcome};
+ghost use Rattle.log_store.specs.Outcome.{EndsExactly, IsOutcome, MovesPositions};
 ghost use Rattle.log_store.specs.State.{state_of};
 ghost use Rattle.log_store.specs.Steps.{Covering, Goes, IsStore};
 
@@ -105,6 +105,7 @@ impl<D: Disk> Store<D> {
         ensures goes { Goes D.told D.cells D.sector_count D.moment D.left_since self.old self.new }
         ensures outcome { IsOutcome result (state_of self.old) (state_of self.new) self.old.job self.new.job (D.fault_count self.old.disk) (D.fault_count self.new.disk) }
         ensures end { EndsExactly result (state_of self.old) (state_of self.new) self.old.job }
+        ensures positions { MovesPositions self.old.stage (state_of self.old) (state_of self.new) }
     {
         flights();
         let head = self.positions.head();
@@ -145,6 +146,7 @@ impl<D: Disk> Store<D> {
         ensures goes { Goes D.told D.cells D.sector_count D.moment D.left_since self.old self.new }
         ensures outcome { IsOutcome result (state_of self.old) (state_of self.new) self.old.job self.new.job (D.fault_count self.old.disk) (D.fault_count self.new.disk) }
         ensures end { EndsExactly result (state_of self.old) (state_of self.new) self.old.job }
+        ensures positions { MovesPositions self.old.stage (state_of self.old) (state_of self.new) }
     {
         flights();
         let part = self.straight();
@@ -168,6 +170,7 @@ impl<D: Disk> Store<D> {
         ensures goes { Goes D.told D.cells D.sector_count D.moment D.left_since self.old self.new }
         ensures outcome { IsOutcome result (state_of self.old) (state_of self.new) self.old.job self.new.job (D.fault_count self.old.disk) (D.fault_count self.new.disk) }
         ensures end { EndsExactly result (state_of self.old) (state_of self.new) self.old.job }
+        ensures positions { MovesPositions self.old.stage (state_of self.old) (state_of self.new) }
     {
         flights();
         states();
@@ -203,6 +206,7 @@ impl<D: Disk> Store<D> {
         ensures batch { self.new.batch ≡ self.old.batch }
         ensures outcome { IsOutcome result (state_of self.old) (state_of self.new) self.old.job self.new.job (D.fault_count self.old.disk) (D.fault_count self.new.disk) }
         ensures end { EndsExactly result (state_of self.old) (state_of self.new) self.old.job }
+        ensures positions { MovesPositions self.old.stage (state_of self.old) (state_of self.new) }
     {
         cover_flights();
         let head = self.positions.head();
@@ -237,6 +241,7 @@ impl<D: Disk> Store<D> {
         ensures goes { Goes D.told D.cells D.sector_count D.moment D.left_since self.old self.new }
         ensures outcome { IsOutcome result (state_of self.old) (state_of self.new) self.old.job self.new.job (D.fault_count self.old.disk) (D.fault_count self.new.disk) }
         ensures end { EndsExactly result (state_of self.old) (state_of self.new) self.old.job }
+        ensures positions { MovesPositions self.old.stage (state_of self.old) (state_of self.new) }
     {
         cover_flights();
         states();
