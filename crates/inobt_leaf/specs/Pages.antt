@@ -1,6 +1,7 @@
 -- A leaf as a page of 4,096 bytes: the block of an inode btree that has no sibling, at level 0.
 use Rattle.std.specs.Prelude.{◌+◌, ◌*◌, ℕ, List, [], ◌∷◌, ◌++◌, length, replicate, map}
 use Rattle.std.specs.List.{range_with_len}
+use Rattle.life_limits.specs.declared.TheConstants.{BLOCK_BYTES}
 use Rattle.life_bytes.specs.Fields.{field}
 use Rattle.life_bytes.specs.Pieces.{Row, number, piece, placed, sealed}
 use Rattle.inobt_leaf.specs.declared.chunk.ChunkRec.{ChunkRec}
@@ -41,7 +42,7 @@ records place (chunk ∷ chunks) = chunk_rows place chunk ++ records (place + 16
 
 -- a page of zero bytes
 unfoldable pub blank_page : List ℕ
-blank_page = replicate 4096 0
+blank_page = replicate BLOCK_BYTES 0
 
 -- the page: its fields over zeros, and the checksum at byte 52
 unfoldable pub spelling : List ChunkRec → ℕ → ℕ → List ℕ → List ℕ

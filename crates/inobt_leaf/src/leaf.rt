@@ -1,6 +1,7 @@
 // The leaf in memory.
 
 ghost use Rattle.std.specs.Prelude.{◌≡◌, ◌↔◌, ◌+◌, ◌-◌, ◌%◌, ◌≤◌, ◌<◌, ℕ, true, false, [], length, find, map, None, IsSomeAnd, IsOk, Err, OnOk, OnErr};
+ghost use Rattle.life_limits.specs.declared.TheConstants.{MAX_CHUNKS};
 ghost use Rattle.inobt_leaf.specs.Chunks.{holds, IsLeaf, after_take, after_give, where_held, with_chunk};
 ghost use Rattle.inobt_leaf.specs.Masks.{is_set};
 
@@ -107,7 +108,7 @@ impl Leaf {
         requires absent { find (holds start) self.old ≡ None }
         ensures ok { OnOk result (self.new ≡ with_chunk start self.old) }
         ensures leaf { IsLeaf self.new }
-        ensures full { (result ≡ Err LeafFault.LeafFull) ↔ (length self.old ≡ 252) }
+        ensures full { (result ≡ Err LeafFault.LeafFull) ↔ (length self.old ≡ MAX_CHUNKS) }
         ensures err { OnErr result (self.new ≡ self.old) }
     {
         if self.chunks.len() == LEAF_CHUNKS {

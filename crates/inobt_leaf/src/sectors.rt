@@ -1,6 +1,7 @@
 // A page as 8 sectors and as 4,096 bytes.
 
 ghost use Rattle.std.specs.Prelude.{◌≡◌, ◌*◌, length};
+ghost use Rattle.life_limits.specs.declared.TheConstants.{SECTOR_BYTES};
 ghost use Rattle.life_bytes.specs.SectorBytes.{bytes_of};
 
 use life_bytes::Sector;
@@ -27,7 +28,7 @@ pub fn gather(page: &[Sector]) -> [u8; PAGE_BYTES]
 
 /// Writes bytes over sectors.
 pub fn scatter(bytes: &[u8], page: &mut [Sector])
-    requires { length bytes.now ≡ 512 * length page.old }
+    requires { length bytes.now ≡ SECTOR_BYTES * length page.old }
     ensures { bytes_of page.new ≡ bytes.now }
 {
     for (index, sector) in page.iter_mut().enumerate() {

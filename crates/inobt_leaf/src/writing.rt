@@ -1,6 +1,7 @@
 // Writing a leaf's page.
 
 ghost use Rattle.std.specs.Prelude.{◌≡◌, ◌+◌, ◌≤◌, length};
+ghost use Rattle.life_limits.specs.declared.TheConstants.{BLOCK_BYTES, MAX_CHUNKS};
 ghost use Rattle.life_bytes.specs.Pieces.{placed};
 ghost use Rattle.life_bytes.specs.SectorBytes.{bytes_of};
 ghost use Rattle.inobt_leaf.specs.Pages.{header, blank_page, chunk_rows, records, spelling};
@@ -30,7 +31,7 @@ fn blank_page() -> [u8; PAGE_BYTES]
 }
 
 fn put_header(bytes: &mut [u8], count: u16, group: u32, at: u64, uuid: &[u8; 16])
-    requires { length bytes.old ≡ 4096 }
+    requires { length bytes.old ≡ BLOCK_BYTES }
     ensures { bytes.new ≡ placed (header count group at uuid.now) bytes.old }
 {
     put_u32(bytes, 0, MAGIC);
@@ -52,8 +53,8 @@ fn put_record(bytes: &mut [u8], place: usize, chunk: &ChunkRec)
 }
 
 fn put_records(bytes: &mut [u8], chunks: &[ChunkRec])
-    requires long { length bytes.old ≡ 4096 }
-    requires few { length chunks.now ≤ 252 }
+    requires long { length bytes.old ≡ BLOCK_BYTES }
+    requires few { length chunks.now ≤ MAX_CHUNKS }
     ensures { bytes.new ≡ placed (records 56 chunks.now) bytes.old }
 {
     for (index, chunk) in chunks.iter().enumerate() {
@@ -63,7 +64,7 @@ fn put_records(bytes: &mut [u8], chunks: &[ChunkRec])
 
 /// The bytes of the page of a leaf.
 pub fn spell(chunks: &[ChunkRec], group: u32, at: u64, uuid: &[u8; 16]) -> [u8; PAGE_BYTES]
-    requires { length chunks.now ≤ 252 }
+    requires { length chunks.now ≤ MAX_CHUNKS }
     ensures { result ≡ spelling chunks.now group at uuid.now }
 {
     let mut bytes = blank_page();

@@ -5,8 +5,9 @@ use Rattle.thin_run.specs.declared.types.MountRecord.{MountRecord}
 use Rattle.thin_run.specs.declared.types.Status.{Status}
 use Rattle.thin_run.specs.declared.types.Status.TheVariants as status
 use Rattle.std.specs.Option.{MatchOption, IfSome}
+use Rattle.life_limits.specs.declared.TheConstants.{MAX_SCRIPT_BYTES}
 use Rattle.disk_model.specs.Images.{Given, attached}
-use Rattle.life_cli.specs.Outcome.{Yields, YieldsRead, Replied, EndsAs, WhereTold, IsReadable, IsOutsideAt, CompletesAs, FaultsExactly, IsTooLongExactly, most_bytes}
+use Rattle.life_cli.specs.Outcome.{Yields, YieldsRead, Replied, EndsAs, WhereTold, IsReadable, IsOutsideAt, CompletesAs, FaultsExactly, IsTooLongExactly}
 use Rattle.thin_run.specs.Outcome.{Caused}
 use Rattle.life_cli.specs.Script.{first_outside, lines_of}
 
@@ -40,8 +41,8 @@ due_fault bytes a b c d (status.ScriptFault other rule) result ends yields line 
     let same : status.ScriptFault other rule ≡ status.ScriptFault line 0 = cc in
     widened result (status.ScriptFault other rule) (status.ScriptFault line 0) yields same
 due_fault bytes a b c d status.ScriptTooLong result ends yields line outside =
-    let short : length bytes ≤ most_bytes = outside.short in
-    let long : most_bytes < length bytes = ends in
+    let short : length bytes ≤ MAX_SCRIPT_BYTES = outside.short in
+    let long : MAX_SCRIPT_BYTES < length bytes = ends in
     absurd (omega arith)
 due_fault bytes a b c d status.OpenFault result ends yields line outside = absurd (not_readable bytes line ends.1 outside)
 due_fault bytes a b c d status.SourceFault result ends yields line outside = by_source result (status.ScriptFault line 0) yields
@@ -68,24 +69,24 @@ FaultsExactly-from (Some bytes) a b c d ended result ends yields = record {
 }
 
 due_long : (bytes : List ℕ) (a b c d : ℕ) (ended result : Status) → EndsAs (Some bytes) a b c d ended → Yields result ended
-    → most_bytes < length bytes → YieldsRead result status.ScriptTooLong
+    → MAX_SCRIPT_BYTES < length bytes → YieldsRead result status.ScriptTooLong
 due_long bytes a b c d status.Good result ends yields long =
-    let short : length bytes ≤ most_bytes = ends.short in
+    let short : length bytes ≤ MAX_SCRIPT_BYTES = ends.short in
     absurd (omega arith)
 due_long bytes a b c d status.Usage result ends yields long = absurd ends
 due_long bytes a b c d (status.ScriptFault other rule) result ends yields long =
-    let short : length bytes ≤ most_bytes = ends.1.short in
+    let short : length bytes ≤ MAX_SCRIPT_BYTES = ends.1.short in
     absurd (omega arith)
 due_long bytes a b c d status.ScriptTooLong result ends yields long = widened result status.ScriptTooLong status.ScriptTooLong yields refl
 due_long bytes a b c d status.OpenFault result ends yields long =
-    let short : length bytes ≤ most_bytes = ends.1.short in
+    let short : length bytes ≤ MAX_SCRIPT_BYTES = ends.1.short in
     absurd (omega arith)
 due_long bytes a b c d status.SourceFault result ends yields long = by_source result status.ScriptTooLong yields
 due_long bytes a b c d status.SinkFault result ends yields long = absurd ends
 due_long bytes a b c d status.NoMemory result ends yields long = by_memory result status.ScriptTooLong yields
 
 told_long : (bytes : List ℕ) (a b c d : ℕ) (ended result : Status) → EndsAs (Some bytes) a b c d ended → Yields result ended
-    → result ≡ status.ScriptTooLong → most_bytes < length bytes
+    → result ≡ status.ScriptTooLong → MAX_SCRIPT_BYTES < length bytes
 told_long bytes a b c d ended result ends (inl e) is = subst (λ (s : Status). EndsAs (Some bytes) a b c d s) (sym e ∙ is) ends
 told_long bytes a b c d ended result ends (inr (inl e)) is =
     let bad : status.SinkFault ≡ status.ScriptTooLong = sym e ∙ is in
@@ -108,8 +109,8 @@ complete bytes a b c d status.Good result ends yields readable = inr (inr yields
 complete bytes a b c d status.Usage result ends yields readable = absurd ends
 complete bytes a b c d (status.ScriptFault line rule) result ends yields readable = absurd (not_readable bytes line readable ends.1)
 complete bytes a b c d status.ScriptTooLong result ends yields readable =
-    let short : length bytes ≤ most_bytes = readable.short in
-    let long : most_bytes < length bytes = ends in
+    let short : length bytes ≤ MAX_SCRIPT_BYTES = readable.short in
+    let long : MAX_SCRIPT_BYTES < length bytes = ends in
     absurd (omega arith)
 complete bytes a b c d status.OpenFault result ends (inl e) readable = inl e
 complete bytes a b c d status.OpenFault result ends (inr other) readable = inr (inr (inr other))

@@ -2,6 +2,7 @@
 use Rattle.std.specs.Prelude.{◌≡◌, ◌<◌, ◌≤◌, ◌⊎◌, ⊤, ℕ, Bool, true, false, List, [], ◌∷◌, Option, None, Some, String, string_bytes, length, take, map, codes}
 use Rattle.std.specs.Io.KnownBytes.{Appends}
 use Rattle.std.specs.declared.alloc.Global.{Global}
+use Rattle.life_limits.specs.declared.TheConstants.{MAX_SCRIPT_BYTES}
 use Rattle.life_bytes.specs.declared.sector.Sector.{Sector}
 use Rattle.life_ports.specs.Faults.{Rose}
 use Rattle.life_cli.specs.Output.{AppendsPrefix}
@@ -56,18 +57,14 @@ abbrev pub WhereTold : Option (List ℕ) → (List ℕ → Type 0) → Type 0
 WhereTold None P = ⊤
 WhereTold (Some bytes) P = P bytes
 
--- the most bytes that a script may have
-abbrev pub most_bytes : ℕ
-most_bytes = 16777216
-
 -- a script within the grammar, and not too long
 pub record IsReadable (bytes : List ℕ) : Type 0 where
-  pub short : length bytes ≤ most_bytes
+  pub short : length bytes ≤ MAX_SCRIPT_BYTES
   pub inside : first_outside 1 (lines_of bytes) ≡ None
 
 -- a script whose first line outside the grammar is this one
 pub record IsOutsideAt (bytes : List ℕ) (line : ℕ) : Type 0 where
-  pub short : length bytes ≤ most_bytes
+  pub short : length bytes ≤ MAX_SCRIPT_BYTES
   pub outside : first_outside 1 (lines_of bytes) ≡ Some line
 
 -- why a script was refused, by the source's count of faults before and after
@@ -75,7 +72,7 @@ abbrev pub RefusesScript : Option (List ℕ) → ℕ → ℕ → Status → Type
 RefusesScript script before after status.Good = ⊥
 RefusesScript script before after status.Usage = ⊥
 RefusesScript script before after (status.ScriptFault line rule) = (rule ≡ 0) × WhereTold script (λ bytes. IsOutsideAt bytes line)
-RefusesScript script before after status.ScriptTooLong = WhereTold script (λ bytes. most_bytes < length bytes)
+RefusesScript script before after status.ScriptTooLong = WhereTold script (λ bytes. MAX_SCRIPT_BYTES < length bytes)
 RefusesScript script before after status.OpenFault = ⊥
 RefusesScript script before after status.SourceFault = Rose before after
 RefusesScript script before after status.SinkFault = ⊥
@@ -86,7 +83,7 @@ abbrev pub EndsAs : Option (List ℕ) → ℕ → ℕ → ℕ → ℕ → Status
 EndsAs script source_before source_after images_before images_after status.Good = WhereTold script IsReadable
 EndsAs script source_before source_after images_before images_after status.Usage = ⊥
 EndsAs script source_before source_after images_before images_after (status.ScriptFault line rule) = (rule ≡ 0) × WhereTold script (λ bytes. IsOutsideAt bytes line)
-EndsAs script source_before source_after images_before images_after status.ScriptTooLong = WhereTold script (λ bytes. most_bytes < length bytes)
+EndsAs script source_before source_after images_before images_after status.ScriptTooLong = WhereTold script (λ bytes. MAX_SCRIPT_BYTES < length bytes)
 EndsAs script source_before source_after images_before images_after status.OpenFault = Rose images_before images_after × WhereTold script IsReadable
 EndsAs script source_before source_after images_before images_after status.SourceFault = Rose source_before source_after
 EndsAs script source_before source_after images_before images_after status.SinkFault = ⊥
@@ -118,8 +115,8 @@ pub record FaultsExactly (bytes : List ℕ) (ended : Status) : Type 0 where
 
 -- a script is too long exactly where it has more bytes than a script may have
 pub record IsTooLongExactly (bytes : List ℕ) (ended : Status) : Type 0 where
-  pub told : ended ≡ status.ScriptTooLong → most_bytes < length bytes
-  pub exact : most_bytes < length bytes → YieldsRead ended status.ScriptTooLong
+  pub told : ended ≡ status.ScriptTooLong → MAX_SCRIPT_BYTES < length bytes
+  pub exact : MAX_SCRIPT_BYTES < length bytes → YieldsRead ended status.ScriptTooLong
 
 -- how a run over a script in the grammar may end
 abbrev pub CompletesAs : Status → Type 0

@@ -1,11 +1,13 @@
 // Disks that are files. Of what a file holds, nothing is told.
 
 ghost use Rattle.std.specs.Prelude.{◌≡◌, ◌<◌, ◌*◌, ◌^◌, ◌++◌, ◌∷◌, [], IfOk, OnOk, OnErr, string_bytes};
+ghost use Rattle.life_limits.specs.declared.TheConstants.{SECTOR_BYTES};
 ghost use Rattle.life_ports.specs.Faults.{NeverFalls, Rose};
 ghost use Rattle.life_cli.specs.FileDisk.{all_given};
 
 use disk_model::{Disk, Images};
 use life_bytes::Sector;
+use life_limits::SECTOR_BYTES;
 use life_ports::{Failed, Refused};
 use std::alloc::{AllocError, Global};
 use std::fs::{File, OpenOptions};
@@ -19,7 +21,7 @@ pub(crate) struct FileDisk {
     file: File,
     sectors: u64,
     faults: u64,
-    ghost fits: { sectors * 512 < 2 ^ 64 },
+    ghost fits: { sectors * SECTOR_BYTES < 2 ^ 64 },
 }
 
 fn read_at(file: &mut File, place: u64, into: &mut Sector) -> io::Result<()> {
@@ -71,14 +73,14 @@ impl Disk for FileDisk {
     }
 
     fn read(&mut self, at: u64, into: &mut Sector) -> Result<(), Failed> {
-        match read_at(&mut self.file, at * 512, into) {
+        match read_at(&mut self.file, at * u64::from(SECTOR_BYTES), into) {
             Ok(()) => Ok(()),
             Err(_) => Err(self.fault()),
         }
     }
 
     fn write(&mut self, at: u64, pieces: &[Sector]) -> Result<(), Failed> {
-        match write_at(&mut self.file, at * 512, pieces) {
+        match write_at(&mut self.file, at * u64::from(SECTOR_BYTES), pieces) {
             Ok(()) => Ok(()),
             Err(_) => Err(self.fault()),
         }
@@ -171,7 +173,7 @@ fn open(files: &impl Files<File = File>, path: &str) -> io::Result<FileDisk>
     let bytes = file.seek(SeekFrom::End(0))?;
     Ok(FileDisk {
         file,
-        sectors: bytes / 512,
+        sectors: bytes / u64::from(SECTOR_BYTES),
         faults: 0,
     })
 }
@@ -179,7 +181,7 @@ fn open(files: &impl Files<File = File>, path: &str) -> io::Result<FileDisk>
 fn make(files: &impl Files<File = File>, path: &str, sectors: u64) -> io::Result<FileDisk>
     ensures { IfOk result (λ disk. (disk.faults ≡ 0) × (disk.sectors ≡ sectors)) }
 {
-    let Some(bytes) = sectors.checked_mul(512) else {
+    let Some(bytes) = sectors.checked_mul(u64::from(SECTOR_BYTES)) else {
         return Err(io::Error::from(io::ErrorKind::InvalidInput));
     };
     let file = File::create_new(files, path)?;

@@ -2,15 +2,14 @@
 
 ghost use Rattle.std.specs.Prelude.{◌≡◌, ◌≤◌, ◌<◌, ◌+◌, length, IfOk, OnOk, IsErrOf};
 ghost use Rattle.std.specs.Io.KnownBytes.{Consumes, IsAtEnd};
+ghost use Rattle.life_limits.specs.declared.TheConstants.{MAX_SCRIPT_BYTES};
 ghost use Rattle.life_ports.specs.Faults.{NeverFalls, Rose};
 ghost use Rattle.life_cli.specs.Input.{Takes, TakesAtMost, HasAtMost, HasMoreThan};
 ghost use Rattle.life_cli.specs.declared.input.ReadFault.TheVariants.{SourceFault, ScriptTooLong};
 
+use life_limits::MAX_SCRIPT_BYTES;
 use life_ports::{Failed, Source};
 use std::alloc::{AllocError, Global};
-
-/// The most bytes that a script may have.
-pub const MOST_BYTES: usize = 16_777_216;
 
 // The most bytes that one read asks for.
 const PIECE_BYTES: usize = 4096;
@@ -47,14 +46,14 @@ impl From<AllocError> for ReadFault {
 
 // How many bytes to ask for with so many taken: only with the most that a script may have, one more.
 fn bytes_to_ask(taken: usize) -> usize
-    requires { taken ≤ MOST_BYTES }
+    requires { taken ≤ MAX_SCRIPT_BYTES }
     ensures some { 0 < result }
     ensures piece { result ≤ PIECE_BYTES }
-    ensures within { taken < MOST_BYTES → taken + result ≤ MOST_BYTES }
-    ensures one_more { taken + result ≤ MOST_BYTES + 1 }
+    ensures within { taken < MAX_SCRIPT_BYTES → taken + result ≤ MAX_SCRIPT_BYTES }
+    ensures one_more { taken + result ≤ MAX_SCRIPT_BYTES + 1 }
 {
-    if taken < MOST_BYTES {
-        PIECE_BYTES.min(MOST_BYTES - taken)
+    if taken < MAX_SCRIPT_BYTES {
+        PIECE_BYTES.min(MAX_SCRIPT_BYTES - taken)
     } else {
         1
     }
@@ -65,19 +64,19 @@ fn bytes_to_ask(taken: usize) -> usize
 pub(crate) fn read_script<S: Source>(alloc: Global, source: &mut S) -> Result<Vec<u8>, ReadFault>
     ensures bytes { IfOk result (λ script. Consumes (S.bytes_left source.old) (S.bytes_left source.new) script.items) }
     ensures end { OnOk result (IsAtEnd (S.bytes_left source.new)) }
-    ensures within { IfOk result (λ script. length script.items ≤ MOST_BYTES) }
-    ensures fits { OnOk result (HasAtMost MOST_BYTES (S.bytes_left source.old)) }
+    ensures within { IfOk result (λ script. length script.items ≤ MAX_SCRIPT_BYTES) }
+    ensures fits { OnOk result (HasAtMost MAX_SCRIPT_BYTES (S.bytes_left source.old)) }
 
     ensures source_fault { IsErrOf result SourceFault → Rose (S.fault_count source.old) (S.fault_count source.new) }
-    ensures too_long { IsErrOf result ScriptTooLong → Takes (MOST_BYTES + 1) (S.bytes_left source.old) (S.bytes_left source.new) }
-    ensures exceeds { IsErrOf result ScriptTooLong → HasMoreThan MOST_BYTES (S.bytes_left source.old) }
+    ensures too_long { IsErrOf result ScriptTooLong → Takes (MAX_SCRIPT_BYTES + 1) (S.bytes_left source.old) (S.bytes_left source.new) }
+    ensures exceeds { IsErrOf result ScriptTooLong → HasMoreThan MAX_SCRIPT_BYTES (S.bytes_left source.old) }
 
-    ensures taken { TakesAtMost (MOST_BYTES + 1) (S.bytes_left source.old) (S.bytes_left source.new) }
+    ensures taken { TakesAtMost (MAX_SCRIPT_BYTES + 1) (S.bytes_left source.old) (S.bytes_left source.new) }
     ensures never_falls { NeverFalls (S.fault_count source.old) (S.fault_count source.new) }
 {
     let mut script = Vec::new(alloc);
     let mut piece = [0; PIECE_BYTES];
-    while script.len() <= MOST_BYTES {
+    while script.len() <= MAX_SCRIPT_BYTES {
         let ask = bytes_to_ask(script.len());
         let count = source.read(&mut piece[..ask])?;
         if count == 0 {
@@ -101,8 +100,8 @@ mod tests {
             (0, 9, Ok(0)),
             (10_000, 9, Ok(10_000)),
             (10_000, 3, Err(ReadFault::SourceFault)),
-            (MOST_BYTES, 9_999, Ok(MOST_BYTES)),
-            (MOST_BYTES + 1, 9_999, Err(ReadFault::ScriptTooLong)),
+            (MAX_SCRIPT_BYTES, 9_999, Ok(MAX_SCRIPT_BYTES)),
+            (MAX_SCRIPT_BYTES + 1, 9_999, Err(ReadFault::ScriptTooLong)),
         ] {
             let bytes = vec![in alloc; b'#'; length]?;
             let mut source = MemorySource::new(bytes, vec![in alloc; fails]?);

@@ -3,13 +3,14 @@
 ghost use Rattle.std.specs.Prelude.{◌≡◌, ◌≢◌, ◌↔◌, ◌<◌, ◌≤◌, ◌⊎◌, ◌+◌, ◌++◌, ◌∷◌, [], ℕ, List, Option, None, Some, IsTrue, IsNone, IsSome, IfSome, IfOk, IfErr, OnOk, MatchOption, take, map, string_bytes, length, vec_len, vec_capacity};
 ghost use Rattle.std.specs.List.{AllByRecursion};
 ghost use Rattle.std.specs.Io.KnownBytes.{IsAtEnd};
+ghost use Rattle.life_limits.specs.declared.TheConstants.{MAX_SCRIPT_BYTES};
 ghost use Rattle.life_ports.specs.Faults.{Rose};
 ghost use Rattle.disk_model.specs.Disk.{as_read};
 ghost use Rattle.disk_model.specs.Images.{attached};
 ghost use Rattle.life_bytes.specs.declared.sector.Sector.{Sector};
 ghost use Rattle.thin_run.specs.Thin.{ring_of, MountsFit};
 ghost use Rattle.life_cli.specs.Input.{Takes, TakesAtMost};
-ghost use Rattle.life_cli.specs.Outcome.{most_bytes, IsPath, IsSteps, IsScript, IsReadable, WhereTold, RefusesScript, Replied, EndsAs, image_told, IsEarly, Yields, IsWritten, IsUsage, FaultsExactly, IsTooLongExactly, CompletesAs};
+ghost use Rattle.life_cli.specs.Outcome.{IsPath, IsSteps, IsScript, IsReadable, WhereTold, RefusesScript, Replied, EndsAs, image_told, IsEarly, Yields, IsWritten, IsUsage, FaultsExactly, IsTooLongExactly, CompletesAs};
 ghost use Rattle.thin_run.specs.Wherever.{LeftWhereTold};
 ghost use Rattle.thin_run.specs.Outcome.{AnswersAll, IsLegalOver, IsLogged, IsFirst, Caused, FitWhereTold, where_told, IsRunStatus};
 ghost use Rattle.thin_run.specs.Ending.{stories_of};
@@ -67,8 +68,8 @@ fn read_commands<S: Source>(alloc: Global, script: &mut S) -> Result<Vec<Command
     ensures readable { OnOk result (WhereTold (S.bytes_left script.old) IsReadable) }
     ensures end { OnOk result (IsAtEnd (S.bytes_left script.new)) }
     ensures refused { IfErr result (RefusesScript (S.bytes_left script.old) (S.fault_count script.old) (S.fault_count script.new)) }
-    ensures taken { TakesAtMost (most_bytes + 1) (S.bytes_left script.old) (S.bytes_left script.new) }
-    ensures one_more { IfErr result (λ refused. refused ≡ status.ScriptTooLong → Takes (most_bytes + 1) (S.bytes_left script.old) (S.bytes_left script.new)) }
+    ensures taken { TakesAtMost (MAX_SCRIPT_BYTES + 1) (S.bytes_left script.old) (S.bytes_left script.new) }
+    ensures one_more { IfErr result (λ refused. refused ≡ status.ScriptTooLong → Takes (MAX_SCRIPT_BYTES + 1) (S.bytes_left script.old) (S.bytes_left script.new)) }
     ensures never_falls { S.fault_count script.old ≤ S.fault_count script.new }
 {
     let bytes = match read_script(alloc, script) {
@@ -95,8 +96,8 @@ fn run_steps<I: Images, S: Source>(
     ensures ends { EndsAs (S.bytes_left script.old) (S.fault_count script.old) (S.fault_count script.new)
         (I.fault_count images.old) (I.fault_count images.new) result.status }
     ensures end { result.status ≡ status.Good → IsAtEnd (S.bytes_left script.new) }
-    ensures taken { TakesAtMost (most_bytes + 1) (S.bytes_left script.old) (S.bytes_left script.new) }
-    ensures one_more { result.status ≡ status.ScriptTooLong → Takes (most_bytes + 1) (S.bytes_left script.old) (S.bytes_left script.new) }
+    ensures taken { TakesAtMost (MAX_SCRIPT_BYTES + 1) (S.bytes_left script.old) (S.bytes_left script.new) }
+    ensures one_more { result.status ≡ status.ScriptTooLong → Takes (MAX_SCRIPT_BYTES + 1) (S.bytes_left script.old) (S.bytes_left script.new) }
     ensures legal { AllByRecursion (IsLegalOver (image_told I.Disk.told (I.image_at images.old path.now))) result.mounts.items }
     ensures damaged { FitWhereTold (image_told I.Disk.told (I.image_at images.old path.now)) result.said.items }
     ensures log { IfSome result.disk (λ disk. AllByRecursion (IsLogged (image_told I.Disk.told (I.image_at images.old path.now)) (ring_of (I.Disk.sector_count disk))) result.mounts.items) }
@@ -208,8 +209,8 @@ pub fn top<I: Images, S: Source, K: Sink>(
     ensures end { result.status ≡ status.Good → IsAtEnd (S.bytes_left script.new) }
 
     // Of the script no more is taken than the most bytes that one may have and one more, and that only of a longer one.
-    ensures taken { TakesAtMost (most_bytes + 1) (S.bytes_left script.old) (S.bytes_left script.new) }
-    ensures one_more { result.status ≡ status.ScriptTooLong → Takes (most_bytes + 1) (S.bytes_left script.old) (S.bytes_left script.new) }
+    ensures taken { TakesAtMost (MAX_SCRIPT_BYTES + 1) (S.bytes_left script.old) (S.bytes_left script.new) }
+    ensures one_more { result.status ≡ status.ScriptTooLong → Takes (MAX_SCRIPT_BYTES + 1) (S.bytes_left script.old) (S.bytes_left script.new) }
 
     // A disk is handed back exactly where one was given, which is at most one, and where the run ended well.
     ensures handed_back { MatchOption result.disk ((I.given images.new ≡ I.given images.old) × IsEarly result.mounts.items result.said.items)

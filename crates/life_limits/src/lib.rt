@@ -49,3 +49,17 @@ pub const NO_INODE: u32 = 4_294_967_295;
 pub const MAX_PINS: u32 = 268_435_455;
 /// Sectors that one commit, and one record of the log, carries.
 pub const MAX_IMAGES: u32 = 128;
+/// Sectors of a record: as many as hold so many images, their homes, the header and the end.
+pub const MAX_RECORD_SECTORS: u32 = 135;
+/// The positions of the log and the numbers of commits are below it where an image is mounted: 2^62.
+pub const MOUNT_LIMIT: u64 = 4_611_686_018_427_387_904;
+/// Actors of a script, one for each letter from A to Z.
+pub const MAX_ACTORS: u32 = 26;
+/// Bytes of a script: 2^24.
+pub const MAX_SCRIPT_BYTES: usize = 16_777_216;
+/// Turns of one `load`.
+pub const MAX_LOAD_TURNS: u32 = 1_000_000;
+/// Worker threads of one `drill`, and the turns of each of them.
+pub const MAX_DRILL_WORKERS: u32 = 16;
+
+pub const MAX_DRILL_TURNS: u32 = 100_000;

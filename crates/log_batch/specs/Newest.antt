@@ -2,6 +2,7 @@
 use Rattle.std.specs.Prelude.{◌≡◌, ◌≤◌, ◌<◌, ◌+◌, ◌-◌, ◌^◌, ℕ, List, length, map, take}
 use Rattle.std.specs.List.{flat_map}
 use Rattle.std.specs.List.Sorted.{IsStrictlyIncreasing}
+use Rattle.life_limits.specs.declared.TheConstants.{MAX_IMAGES}
 use Rattle.log_record.specs.declared.image.Image.{Image}
 use Rattle.log_record.specs.declared.image.Commit.{Commit}
 use Rattle.log_image.specs.Overlay.{newest}
@@ -21,14 +22,14 @@ pub record IsNewestOf (images newer : List Image) : Type 0 where
 
 -- a commit that a record can take
 pub record IsCommit (commit : Commit) : Type 0 where
-  pub few : length commit.images ≤ 128
+  pub few : length commit.images ≤ MAX_IMAGES
   pub ascending : IsStrictlyIncreasing (homes commit.images)
 
--- So many first commits are what one record takes: they write at most 128 different sectors, of each of which it has
+-- So many first commits are what one record takes: they write no more different sectors than it may have images, of each of which it has
 -- the newest image, and with the next commit they would write more, or be 2^32.
 pub record IsBatch (commits : List Commit) (taken : ℕ) (images : List Image) : Type 0 where
   pub within : taken ≤ length commits
   pub newest : IsNewestOf (commit_images (take taken commits)) images
-  pub few : length images ≤ 128
+  pub few : length images ≤ MAX_IMAGES
   pub countable : taken < 2 ^ 32
-  pub longest : taken < length commits → taken < 2 ^ 32 - 1 → (more : List Image) → IsNewestOf (commit_images (take (taken + 1) commits)) more → 128 < length more
+  pub longest : taken < length commits → taken < 2 ^ 32 - 1 → (more : List Image) → IsNewestOf (commit_images (take (taken + 1) commits)) more → MAX_IMAGES < length more

@@ -1,6 +1,7 @@
 // The commits that one record takes.
-ghost use Rattle.std.specs.Prelude.{◌≡◌, ◌≤◌, ◌<◌, ◌+◌, ◌-◌, ◌^◌, ℕ, [], length, map, take, vec_len, vec_capacity, slice_index_or, IfOk};
+ghost use Rattle.std.specs.Prelude.{◌≡◌, ◌≤◌, ◌<◌, ◌+◌, ◌-◌, ◌*◌, ◌^◌, ℕ, [], length, map, take, vec_len, vec_capacity, slice_index_or, IfOk};
 ghost use Rattle.std.specs.List.{All};
+ghost use Rattle.life_limits.specs.declared.TheConstants.{MAX_IMAGES};
 ghost use Rattle.log_record.specs.declared.image.Commit.{Commit};
 ghost use Rattle.log_record.specs.declared.image.Image.{Image};
 ghost use Rattle.log_batch.specs.Newest.{IsBatch, IsCommit, commit_images};
@@ -20,11 +21,11 @@ fn put_commit(picks: &mut Vec<Pick>, commits: &VecDeque<Commit>, at: usize)
     requires picks { ArePicks commits.now.items picks.old.items }
     requires within { at < length commits.now.items }
     requires commits { All IsCommit commits.now.items }
-    requires room { vec_len picks.old + 128 ≤ vec_capacity picks.old }
+    requires room { vec_len picks.old + MAX_IMAGES ≤ vec_capacity picks.old }
     ensures picks { ArePicks commits.now.items picks.new.items }
     ensures put { (d : Commit) → map (image_at commits.now.items) picks.new.items
         ≡ put_all (slice_index_or commits.now.items at d).images (map (image_at commits.now.items) picks.old.items) }
-    ensures size { vec_len picks.new ≤ vec_len picks.old + 128 }
+    ensures size { vec_len picks.new ≤ vec_len picks.old + MAX_IMAGES }
     ensures capacity { vec_capacity picks.new ≡ vec_capacity picks.old }
 {
     let images = commits[at].images.as_slice();
@@ -45,8 +46,8 @@ fn put_commit(picks: &mut Vec<Pick>, commits: &VecDeque<Commit>, at: usize)
 fn pick_first(picks: &mut Vec<Pick>, commits: &VecDeque<Commit>, taken: usize)
     requires within { taken ≤ length commits.now.items }
     requires commits { All IsCommit commits.now.items }
-    requires room { 256 ≤ vec_capacity picks.old }
-    requires few { length (put_all (commit_images (take taken commits.now.items)) []) ≤ 128 }
+    requires room { 2 * MAX_IMAGES ≤ vec_capacity picks.old }
+    requires few { length (put_all (commit_images (take taken commits.now.items)) []) ≤ MAX_IMAGES }
     ensures picks { ArePicks commits.now.items picks.new.items }
     ensures put { map (image_at commits.now.items) picks.new.items ≡ put_all (commit_images (take taken commits.now.items)) [] }
     ensures capacity { vec_capacity picks.new ≡ vec_capacity picks.old }
@@ -60,13 +61,13 @@ fn pick_first(picks: &mut Vec<Pick>, commits: &VecDeque<Commit>, taken: usize)
 /// Picks the newest images of as many first commits as one record takes, and answers how many those are.
 fn pick_most(picks: &mut Vec<Pick>, commits: &VecDeque<Commit>) -> u32
     requires commits { All IsCommit commits.now.items }
-    requires room { 256 ≤ vec_capacity picks.old }
+    requires room { 2 * MAX_IMAGES ≤ vec_capacity picks.old }
     ensures picks { ArePicks commits.now.items picks.new.items }
     ensures put { map (image_at commits.now.items) picks.new.items ≡ put_all (commit_images (take result commits.now.items)) [] }
     ensures within { result ≤ length commits.now.items }
-    ensures few { vec_len picks.new ≤ 128 }
+    ensures few { vec_len picks.new ≤ MAX_IMAGES }
     ensures longest { result < length commits.now.items → result < 2 ^ 32 - 1
-        → 128 < length (put_all (commit_images (take (result + 1) commits.now.items)) []) }
+        → MAX_IMAGES < length (put_all (commit_images (take (result + 1) commits.now.items)) []) }
     ensures capacity { vec_capacity picks.new ≡ vec_capacity picks.old }
 {
     picks.clear();
@@ -95,7 +96,7 @@ fn copy_images(picks: &[Pick], commits: &VecDeque<Commit>, into: &mut Vec<Image>
     }
 }
 
-/// The newest image of each sector that some commits write, at most 128 of them, with room for them from the start.
+/// The newest image of each sector that some commits write, as many as one record has, with room for them from the start.
 #[derive(Drop)]
 pub struct Batch {
     picks: Vec<Pick>,
@@ -103,14 +104,15 @@ pub struct Batch {
 }
 
 impl Model for Batch {
-    ghost use Rattle.std.specs.Prelude.{◌≤◌, List, vec_capacity};
+    ghost use Rattle.std.specs.Prelude.{◌≤◌, ◌*◌, List, vec_capacity};
+    ghost use Rattle.life_limits.specs.declared.TheConstants.{MAX_IMAGES};
     ghost use Rattle.log_record.specs.declared.image.Image.{Image};
 
     ghost Value = { List Image };
 
     ghost view = { λ b. b.images.items };
 
-    ghost invariant = { λ b. (256 ≤ vec_capacity b.picks) × (128 ≤ vec_capacity b.images) };
+    ghost invariant = { λ b. (2 * MAX_IMAGES ≤ vec_capacity b.picks) × (MAX_IMAGES ≤ vec_capacity b.images) };
 }
 
 impl Batch {

@@ -1,5 +1,6 @@
 -- What is read of a record before its images.
 use Rattle.std.specs.Prelude.{ℕ, ◌≡◌, ◌<◌, ◌≤◌, ◌+◌, ◌-◌, ◌*◌, ◌^◌, List, length, replicate}
+use Rattle.life_limits.specs.declared.TheConstants.{MAX_IMAGES}
 use Rattle.life_bytes.specs.declared.sector.Sector.{Sector}
 use Rattle.log_record.specs.declared.read.Header.{Header}
 use Rattle.log_record.specs.Spelling.{header, sector_count, stamps}
@@ -11,7 +12,7 @@ pub record IsHeader (h : Header) : Type 0 where
   pub tail : h.tail < 2 ^ 64
   pub first : h.first < 2 ^ 64
   pub commits : h.commits < 2 ^ 32
-  pub images : h.images ≤ 128
+  pub images : h.images ≤ MAX_IMAGES
 
 -- a header's bytes
 abbrev pub header_bytes : Header → List ℕ

@@ -2,6 +2,7 @@
 use Rattle.std.specs.Prelude.{ℕ, ◌+◌, ◌*◌, ◌-◌, ◌/◌, ◌^◌, ◌<◌, ◌≤◌, ◌≡◌, List, ◌++◌, length, take, drop, map, replicate}
 use Rattle.std.specs.List.{flat_map, range_with_len, All}
 use Rattle.std.specs.List.Sorted.{IsStrictlyIncreasing}
+use Rattle.life_limits.specs.declared.TheConstants.{MAX_IMAGES}
 use Rattle.byteorder.specs.Endian.{big_bytes}
 use Rattle.life_bytes.specs.Fields.{AreBytes}
 use Rattle.life_bytes.specs.declared.sector.Sector.{Sector}
@@ -41,10 +42,10 @@ sector_at item i = record { bytes = stamps (item.position + i) item.position ++ 
 unfoldable pub spelled : LogRecord → List Sector
 spelled item = map (sector_at item) (range_with_len 0 (sector_count (length item.images)))
 
--- what a record has to be: at most 128 images, whose homes ascend and none stands twice, a tail that is not
+-- what a record has to be: no more images than one may have, whose homes ascend and none stands twice, a tail that is not
 -- above its position, and sectors whose positions are numbers of 64 bits
 pub record IsRecord (item : LogRecord) : Type 0 where
-  pub few : length item.images ≤ 128
+  pub few : length item.images ≤ MAX_IMAGES
   pub homes : IsStrictlyIncreasing (map (λ image. image.home) item.images)
   pub tail : item.tail ≤ item.position
   pub positions : item.position + sector_count (length item.images) ≤ 2 ^ 64

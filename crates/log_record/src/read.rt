@@ -2,6 +2,7 @@
 ghost use Rattle.std.specs.Prelude.{◌≡◌, ◌≤◌, ◌<◌, ◌*◌, ◌+◌, ◌/◌, ◌^◌, ◌↔◌, ℕ, List, length, map, IsTrue, IfOk, IfSome, IfNone, IsFalse, MatchOption, EachIndex, slice_index};
 ghost use Rattle.std.specs.List.{flat_map, All};
 ghost use Rattle.std.specs.List.Sorted.{IsStrictlyIncreasing};
+ghost use Rattle.life_limits.specs.declared.TheConstants.{MAX_IMAGES, MAX_RECORD_SECTORS};
 ghost use Rattle.life_bytes.specs.Fields.{AreBytes};
 ghost use Rattle.life_bytes.specs.declared.sector.Sector.{Sector};
 ghost use Rattle.log_record.specs.Outline.{HasOutline, HasRoom, IsHeader, IsStamped, filling, header_bytes};
@@ -37,7 +38,7 @@ fn sector_at(ring: &[Sector], position: u64) -> &Sector
 /// Copies bytes of the payload of the ring's sectors from a position on, beginning with its byte `at`.
 fn copy_payload(ring: &[Sector], position: u64, at: usize, into: &mut [u8])
     requires some { 0 < length ring.now }
-    requires size { at + length into.old ≤ 496 * 135 }
+    requires size { at + length into.old ≤ 496 * MAX_RECORD_SECTORS }
     requires positions { position + (at + length into.old + 495) / 496 ≤ 2 ^ 64 }
     ensures held { HoldsPayload ring.now position at into.new }
     ensures bytes { AreBytes into.new }
@@ -75,7 +76,7 @@ fn parse_header(bytes: &[u8; HEADER]) -> Option<Header>
 
 /// Whether a record with this header has room in a ring of so many sectors.
 fn has_room(header: &Header, position: u64, ring: usize) -> bool
-    requires { header.now.images ≤ 128 }
+    requires { header.now.images ≤ MAX_IMAGES }
     ensures { IsTrue result ↔ HasRoom header.now position ring }
 {
     let count = u64::from(record_sectors(header.images));
@@ -120,7 +121,7 @@ fn is_zero(bytes: &[u8]) -> bool
 
 /// Whether the bytes behind so many images are zero, up to the end of the last sector.
 fn is_filled(ring: &[Sector], position: u64, images: u32) -> bool
-    requires few { images ≤ 128 }
+    requires few { images ≤ MAX_IMAGES }
     requires some { 0 < length ring.now }
     requires positions { position + sector_count images ≤ 2 ^ 64 }
     ensures yes { IsTrue result → HoldsPayload ring.now position (32 + 520 * images) (filling images) }
@@ -157,7 +158,7 @@ fn read_header(ring: &[Sector], position: u64) -> Option<Header>
 /// The image whose bytes begin with the byte `at` of the payload.
 fn read_image(ring: &[Sector], position: u64, at: usize) -> Image
     requires some { 0 < length ring.now }
-    requires size { at + 520 ≤ 496 * 135 }
+    requires size { at + 520 ≤ 496 * MAX_RECORD_SECTORS }
     requires positions { position + (at + 520 + 495) / 496 ≤ 2 ^ 64 }
     ensures held { HoldsPayload ring.now position at (image_bytes result) }
     ensures image { FitsImage result }
@@ -179,7 +180,7 @@ fn read_images(
     position: u64,
     count: u32,
 ) -> Result<ImageList, NoMemory>
-    requires few { count ≤ 128 }
+    requires few { count ≤ MAX_IMAGES }
     requires some { 0 < length ring.now }
     requires positions { position + sector_count count ≤ 2 ^ 64 }
     ensures count { IfOk result (λ images. length images ≡ count) }

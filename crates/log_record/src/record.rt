@@ -1,5 +1,6 @@
 // A record of the log.
 ghost use Rattle.std.specs.Prelude.{◌≡◌, ◌≤◌};
+ghost use Rattle.life_limits.specs.declared.TheConstants.{MAX_IMAGES};
 ghost use Rattle.log_record.specs.Spelling.{sector_count};
 
 use crate::image::ImageList;
@@ -46,7 +47,7 @@ pub struct RecordNumbers {
 
 /// The sectors that a record of so many images takes.
 pub fn record_sectors(images: u32) -> u32
-    requires { images ≤ 128 }
+    requires { images ≤ MAX_IMAGES }
     ensures { result ≡ sector_count images }
 {
     (HEADER as u32 + IMAGE as u32 * images).div_ceil(PAYLOAD as u32)

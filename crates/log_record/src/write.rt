@@ -1,6 +1,7 @@
 // Writing a record as sectors.
 ghost use Rattle.std.specs.Prelude.{◌≡◌, ◌≤◌, ◌<◌, ◌*◌, ◌+◌, ◌^◌, ◌++◌, ℕ, List, length, map, replicate, slice_index_or, IfOk, OnOk};
 ghost use Rattle.std.specs.List.{range_with_len, All};
+ghost use Rattle.life_limits.specs.declared.TheConstants.{MAX_IMAGES};
 ghost use Rattle.life_bytes.specs.Fields.{with_piece, AreBytes};
 ghost use Rattle.life_bytes.specs.declared.sector.Sector.{Sector};
 ghost use Rattle.log_record.specs.Payload.{payload_of, stamps_of, AreSectors, HasStamps};
@@ -47,7 +48,7 @@ fn stamp_all(into: &mut [Sector], position: u64)
 
 /// The first bytes of the payload of a record with these numbers.
 pub(crate) fn header_bytes(tail: u64, first: u64, commits: u32, images: u32) -> [u8; HEADER]
-    requires { images ≤ 128 }
+    requires { images ≤ MAX_IMAGES }
     ensures { result ≡ header tail first commits images }
 {
     let mut bytes = [0; HEADER];

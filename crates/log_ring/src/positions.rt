@@ -1,6 +1,6 @@
 // Where the log goes on, and from where on its records count.
 ghost use Rattle.std.specs.Prelude.{◌≡◌, ◌≤◌, ◌<◌, ◌+◌, ◌-◌, ◌^◌, ◌%◌};
-ghost use Rattle.life_limits.specs.declared.TheConstants.{MAX_RING, MIN_RING};
+ghost use Rattle.life_limits.specs.declared.TheConstants.{MAX_RING, MIN_RING, MOUNT_LIMIT};
 
 use life_limits::{MAX_RING, MIN_RING};
 
@@ -23,7 +23,7 @@ impl Positions {
     pub fn new(ring: u32, at: u64) -> Positions
         requires least_ring { MIN_RING ≤ ring }
         requires most_ring { ring ≤ MAX_RING }
-        requires early { at < 2 ^ 62 }
+        requires early { at < MOUNT_LIMIT }
         ensures ring { result.ring ≡ ring }
         ensures head { result.head ≡ at }
         ensures tail { result.tail ≡ at }

@@ -1,5 +1,6 @@
 -- What a store's disk holds, whatever a stop may leave of it.
 use Rattle.std.specs.Prelude.{ℕ, ◌≡◌, ◌≤◌, ◌<◌, ◌+◌, false, None, Some, List, [], length, take, slice_index_or}
+use Rattle.life_limits.specs.declared.TheConstants.{MAX_IMAGES}
 use Rattle.life_bytes.specs.declared.sector.Sector.{Sector}
 use Rattle.disk_model.specs.Disk.{Cell, IsImage, as_read, written}
 use Rattle.log_record.specs.declared.image.Image.{Image}
@@ -61,11 +62,11 @@ item_of s = record { position = s.head; tail = s.tail; first = s.durable + 1; co
 abbrev pub cover_record : State → LogRecord
 cover_record s = record { position = s.head; tail = s.head; first = s.durable + 1; commits = 0; images = [] }
 
--- so many first commits of a list write at most 128 different sectors, and these are the newest images of those
+-- so many first commits of a list write no more different sectors than a record has images, and these are the newest images of those
 pub record IsTaken (list : List Commit) (taken : ℕ) (batch : List Image) : Type 0 where
   pub within : taken ≤ length list
   pub newest : IsNewestOf (commit_images (take taken list)) batch
-  pub few : length batch ≤ 128
+  pub few : length batch ≤ MAX_IMAGES
 
 -- The record goes on where the log ends that was there before it, and has the next commits.
 pub record Flies (s : State) (before : List Cell) : Type 0 where

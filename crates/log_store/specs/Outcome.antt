@@ -1,5 +1,6 @@
 -- What a step of a job answers, and when.
 use Rattle.std.specs.Prelude.{ℕ, ◌≡◌, ◌≢◌, ◌⊎◌, ◌≤◌, ◌<◌, ◌+◌, ◌-◌, ◌*◌, ◌^◌, nat_lt, if◌then◌else◌, false, true, [], length, Result, Ok, Err, Option, Some, None}
+use Rattle.life_limits.specs.declared.TheConstants.{MAX_RECORD_SECTORS}
 use Rattle.life_ports.specs.Faults.{Rose}
 use Rattle.log_record.specs.Spelling.{sector_count}
 use Rattle.log_store.specs.declared.fault.Progress.{Progress}
@@ -33,7 +34,7 @@ IsDone Idle s = Unit {0}
 
 -- how many more steps a job may take where nothing is in flight, apart from those of each commit and each dirty sector
 abbrev pub steps_at_rest : Job → State → ℕ
-steps_at_rest Force s = if nat_lt s.ring ((s.head - s.tail) + 136) then 10 else 5
+steps_at_rest Force s = if nat_lt s.ring ((s.head - s.tail) + MAX_RECORD_SECTORS + 1) then 10 else 5
 steps_at_rest Clear s = if s.unflushed then 8 else 7
 steps_at_rest Home s = if s.unflushed then 8 else 7
 steps_at_rest WriteBack s = if s.unflushed then 8 else 7

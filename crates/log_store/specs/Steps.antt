@@ -1,6 +1,7 @@
 -- What each call of a store keeps, and what it moves.
 use Rattle.std.specs.Prelude.{ℕ, ◌≡◌, ◌≤◌, ◌<◌, ◌+◌, ◌-◌, ◌%◌, ◌^◌, Bool, false, IsTrue, List, [], length, take, drop}
 use Rattle.std.specs.List.{All}
+use Rattle.life_limits.specs.declared.TheConstants.{MAX_RECORD_SECTORS}
 use Rattle.life_bytes.specs.declared.sector.Sector.{Sector}
 use Rattle.disk_model.specs.Disk.{Cell}
 use Rattle.log_record.specs.Spelling.{FitsFields, sector_count, spelled}
@@ -78,7 +79,7 @@ pub record IsSound {D : Type 0} (sector_count : ℕ) (store : Store D) : Type 0 
   pub rises : Rises (λ i. i.home) 0 store.dirty.images
   pub homes : All (IsGroupImage store.anchor) store.dirty.images
   pub room : length (commit_images store.queue.items) ≤ store.dirty.room
-  pub buffer : length store.sectors.items ≡ 135
+  pub buffer : length store.sectors.items ≡ MAX_RECORD_SECTORS
   pub stage : StageFits store.stage (state_of store) store.sectors.items store.count
   pub job : JobFits store.stage store.job
 

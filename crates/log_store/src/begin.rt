@@ -1,6 +1,6 @@
 // The start and the end of a store, and what may be asked of it.
 ghost use Rattle.std.specs.Prelude.{◌≡◌, ◌≤◌, ◌<◌, ◌+◌, ◌-◌, ◌^◌, ◌↔◌, ◌≢◌, [], IsTrue, IfOk, IfErr, Some, None};
-ghost use Rattle.life_limits.specs.declared.TheConstants.{MAX_RING, MIN_RING};
+ghost use Rattle.life_limits.specs.declared.TheConstants.{MAX_RING, MIN_RING, MOUNT_LIMIT};
 ghost use Rattle.disk_model.specs.Disk.{HasOneImage, as_read};
 ghost use Rattle.log_image.specs.Anchor.{HasAnchor};
 ghost use Rattle.log_image.specs.Log.{AreBelow, ring_part};
@@ -12,6 +12,7 @@ ghost use Rattle.log_store.specs.Outcome.{down_count};
 use crate::store::{Job, Stage, Store};
 use disk_model::Disk;
 use life_bytes::Sector;
+use life_limits::MAX_RECORD_SECTORS;
 use life_ports::NoMemory;
 use log_batch::{Batch, DirtySectors};
 use log_image::logs;
@@ -32,8 +33,8 @@ pub fn begin_store<D: Disk>(
     requires place { anchor + 1 + ring ≤ D.sector_count disk }
     requires least_ring { MIN_RING ≤ ring }
     requires most_ring { ring ≤ MAX_RING }
-    requires position { (ring ≤ position) × (position < 2 ^ 62) }
-    requires number { (1 ≤ next_commit) × (next_commit < 2 ^ 62) }
+    requires position { (ring ≤ position) × (position < MOUNT_LIMIT) }
+    requires number { (1 ≤ next_commit) × (next_commit < MOUNT_LIMIT) }
     requires one { IsTrue D.told → HasOneImage (D.cells disk) }
     requires anchor { IsTrue D.told → HasAnchor (as_read (D.cells disk)) anchor ring position next_commit }
     requires below { IsTrue D.told → AreBelow (ring_part anchor ring (as_read (D.cells disk))) position }
@@ -47,7 +48,7 @@ pub fn begin_store<D: Disk>(
         Ok(batch) => batch,
         Err(fault) => return Err((disk, fault)),
     };
-    let sectors = match vec![in alloc; Sector::zero(); 135] {
+    let sectors = match vec![in alloc; Sector::zero(); MAX_RECORD_SECTORS as usize] {
         Ok(sectors) => sectors,
         Err(_) => return Err((disk, NoMemory)),
     };

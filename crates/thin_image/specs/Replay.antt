@@ -1,6 +1,7 @@
 -- What an image of the first kind stands for: 64 inode sectors, and behind them the ring of a log.
 use Rattle.std.specs.Prelude.{◌≡◌, ◌≤◌, ◌<◌, ◌+◌, ◌*◌, ◌^◌, ℕ, List, length, take, drop, slice_index_or, slice_set}
 use Rattle.std.specs.List.{All, AllPairs, Contains, fold, sum_by}
+use Rattle.life_limits.specs.declared.TheConstants.{MOUNT_LIMIT}
 use Rattle.life_bytes.specs.declared.sector.Sector.{Sector}
 use Rattle.life_bytes.specs.Fields.{field}
 use Rattle.log_record.specs.declared.image.Image.{Image}
@@ -61,7 +62,7 @@ pub record IsHistoryUpTo (most ring : ℕ) (records : List LogRecord) : Type 0 w
 
 -- the same of an image that can be mounted: the calls of a mount are then numbered within 64 bits
 abbrev pub IsHistory : ℕ → List LogRecord → Type 0
-IsHistory ring records = IsHistoryUpTo (2 ^ 62) ring records
+IsHistory ring records = IsHistoryUpTo MOUNT_LIMIT ring records
 
 -- an image of at least 72 sectors, whose log has these records, and leaves an inode sector at each of the 64 homes
 pub record IsThinUpTo (most : ℕ) (image : List Sector) (records : List LogRecord) : Type 0 where
@@ -72,7 +73,7 @@ pub record IsThinUpTo (most : ℕ) (image : List Sector) (records : List LogReco
 
 -- an image that can be mounted
 abbrev pub IsThinWith : List Sector → List LogRecord → Type 0
-IsThinWith image records = IsThinUpTo (2 ^ 62) image records
+IsThinWith image records = IsThinUpTo MOUNT_LIMIT image records
 
 abbrev pub IsThin : List Sector → Type 0
 IsThin image = (records : List LogRecord) × IsThinWith image records

@@ -1,19 +1,18 @@
 // What an image holds after a stop.
 ghost use Rattle.std.specs.Prelude.{◌≡◌, ◌<◌, ◌≤◌, ◌↔◌, ◌+◌, ◌^◌, length, All, IfOk, IfSome, IsTrue, MatchOption};
+ghost use Rattle.life_limits.specs.declared.TheConstants.{MOUNT_LIMIT};
 ghost use Rattle.thin_image.specs.Replay.{IsHistory, IsThin, Replays, next_commit, overlaid, replayed};
 
 use crate::inodes::{INODES, flags_of};
 use crate::log::{read_log, start_of};
 use life_bytes::Sector;
+use life_limits::MOUNT_LIMIT;
 use life_ports::NoMemory;
 use log_record::{Image, LogRecord};
 use std::alloc::Global;
 
 /// The least number of sectors of an image: the inodes, and a ring of 8 for the log.
 pub const LEAST_SECTORS: usize = 72;
-
-/// The most that the next commit number can be.
-const MOST_COMMITS: u64 = 1 << 62;
 
 /// What a mount goes on from.
 #[derive(Clone, Copy, Debug, PartialEq, Eq)]
@@ -35,14 +34,14 @@ fn are_low(images: &[Image]) -> bool
 
 /// Whether a record fits a ring of so many sectors behind records up to the commit number `next`.
 fn goes_on(item: &LogRecord, ring: u64, next: u64) -> bool
-    requires { next ≤ 2 ^ 62 }
+    requires { next ≤ MOUNT_LIMIT }
     ensures { IsTrue result ↔ (item.now.tail ≡ ring) × (item.now.first ≡ next)
-        × All (λ image. image.home < 64) item.now.images × (next + item.now.commits ≤ 2 ^ 62) }
+        × All (λ image. image.home < 64) item.now.images × (next + item.now.commits ≤ MOUNT_LIMIT) }
 {
     item.tail == ring
         && item.first == next
         && are_low(item.images.as_slice())
-        && next + u64::from(item.commits) <= MOST_COMMITS
+        && next + u64::from(item.commits) <= MOUNT_LIMIT
 }
 
 /// The number of the commit after those of the records, where they are a history from the making of the image on.
@@ -100,9 +99,9 @@ fn replay_records(
 
 /// What the image holds, or nothing where it can't be mounted.
 pub fn replay(alloc: Global, image: &[Sector]) -> Result<Option<Replayed>, NoMemory>
-    requires { length image.now ≤ 2 ^ 62 }
+    requires { length image.now ≤ MOUNT_LIMIT }
     ensures replays { IfOk result (λ found. MatchOption found (¬ IsThin image.now) (Replays image.now)) }
-    ensures commits { IfOk result (λ found. IfSome found (λ replayed. replayed.next_commit ≤ 2 ^ 62)) }
+    ensures commits { IfOk result (λ found. IfSome found (λ replayed. replayed.next_commit ≤ MOUNT_LIMIT)) }
 {
     if image.len() < LEAST_SECTORS {
         return Ok(None);

@@ -1,5 +1,6 @@
 // The records of a ring that is written once.
 ghost use Rattle.std.specs.Prelude.{◌≡◌, ◌<◌, ◌≤◌, ◌*◌, ◌^◌, ℕ, Some, length, IfOk, IfSome};
+ghost use Rattle.life_limits.specs.declared.TheConstants.{MOUNT_LIMIT};
 ghost use Rattle.log_record.specs.declared.record.LogRecord.{LogRecord};
 ghost use Rattle.thin_image.specs.Replay.{IsLog, IsLogged, IsStart};
 
@@ -12,7 +13,7 @@ use std::alloc::Global;
 fn record_at(alloc: Global, ring: &[Sector], position: u64) -> Result<Option<LogRecord>, NoMemory>
     requires from { length ring.now ≤ position }
     requires below { position < 2 * length ring.now }
-    requires size { length ring.now ≤ 2 ^ 62 }
+    requires size { length ring.now ≤ MOUNT_LIMIT }
     ensures place { IfOk result (λ found. IfSome found (λ item. item.position ≡ position)) }
     ensures logged { IfOk result (λ found. IfSome found (IsLogged ring.now (2 * length ring.now))) }
     ensures only { IfOk result (λ found. (item : LogRecord) → item.position ≡ position
@@ -31,7 +32,7 @@ fn record_at(alloc: Global, ring: &[Sector], position: u64) -> Result<Option<Log
 
 /// All records of the ring, ascending.
 pub(crate) fn read_log(alloc: Global, ring: &[Sector]) -> Result<Vec<LogRecord>, NoMemory>
-    requires { length ring.now ≤ 2 ^ 62 }
+    requires { length ring.now ≤ MOUNT_LIMIT }
     ensures { IfOk result (λ records. IsLog ring.now records.items) }
 {
     let first = ring.len() as u64;
@@ -46,7 +47,7 @@ pub(crate) fn read_log(alloc: Global, ring: &[Sector]) -> Result<Vec<LogRecord>,
 
 /// The position at which the next record may begin.
 pub(crate) fn start_of(ring: &[Sector]) -> u64
-    requires { length ring.now ≤ 2 ^ 62 }
+    requires { length ring.now ≤ MOUNT_LIMIT }
     ensures { IsStart ring.now result }
 {
     let first = ring.len() as u64;

@@ -1,5 +1,6 @@
 -- Images of a row of sectors: 64 inode sectors, and then the ring of a log.
 use Rattle.std.specs.Prelude.{◌≡◌, ◌-◌, ◌^◌, min, ⊤, ℕ, Bool, List, [], ◌∷◌, None, Some, map, length, if◌then◌else◌}
+use Rattle.life_limits.specs.declared.TheConstants.{MOUNT_LIMIT}
 use Rattle.life_bytes.specs.declared.sector.Sector.{Sector}
 use Rattle.thin_run.specs.declared.types.LineReply.TheVariants as line
 use Rattle.thin_run.specs.declared.types.Said.{Said}
@@ -12,7 +13,7 @@ use Rattle.thin_run.specs.Table.{Table}
 
 -- how many sectors the ring of a disk of so many has: all behind the inodes, and at most 2^62
 abbrev pub ring_of : ℕ → ℕ
-ring_of sectors = min (sectors - 64) (2 ^ 62)
+ring_of sectors = min (sectors - 64) MOUNT_LIMIT
 
 -- the table of these flags: a row for each inode that is in use
 abbrev pub table_of : List Bool → Table

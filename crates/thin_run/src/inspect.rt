@@ -1,6 +1,7 @@
 // Whether an image can be mounted, and the mount of one that can.
 
 ghost use Rattle.std.specs.Prelude.{◌≡◌, ◌≤◌, ◌<◌, ◌*◌, ◌^◌, ℕ, IsTrue, IfOk, IfErr, OnOk, OnErr, None, length};
+ghost use Rattle.life_limits.specs.declared.TheConstants.{MOUNT_LIMIT};
 ghost use Rattle.life_ports.specs.Faults.{HasCauseOrNoMemory};
 ghost use Rattle.disk_model.specs.Disk.{as_read, flushed};
 ghost use Rattle.thin_image.specs.Replay.{IsThin, Replays};
@@ -12,12 +13,10 @@ use crate::mount::Mount;
 use crate::types::{LineReply, MountRecord};
 use disk_model::Disk;
 use life_bytes::Sector;
+use life_limits::MOUNT_LIMIT;
 use life_ports::{NoMemory, Refused};
 use std::alloc::Global;
 use thin_image::{INODES, LEAST_SECTORS, Replayed, replay};
-
-/// The most sectors of a ring that a log uses, so that its positions stay numbers of 64 bits.
-const MOST_RING: u64 = 1 << 62;
 
 /// The answer of a mount line where the image can't be mounted.
 const DAMAGED: MountRefused = MountRefused::Answered(LineReply::Damaged { rule: 0, sector: 0 });
@@ -51,7 +50,7 @@ fn mount_of(alloc: Global, sectors: u64, found: Replayed) -> Mount
     requires size { 72 ≤ sectors }
     requires position { ring_of sectors ≤ found.position }
     requires within { found.position ≤ 2 * ring_of sectors }
-    requires base { found.next_commit ≤ 2 ^ 62 }
+    requires base { found.next_commit ≤ MOUNT_LIMIT }
     ensures found { IsFound sectors found result }
     ensures flags { length found.in_use ≡ 64 }
 {
@@ -60,7 +59,7 @@ fn mount_of(alloc: Global, sectors: u64, found: Replayed) -> Mount
         next_commit,
         position,
     } = found;
-    let ring = (sectors - INODES as u64).min(MOST_RING);
+    let ring = (sectors - INODES as u64).min(MOUNT_LIMIT);
     Mount {
         in_use,
         lowest: 0,
@@ -88,7 +87,7 @@ pub(crate) fn try_mount<D: Disk>(alloc: Global, disk: &mut D) -> Result<Mount, M
     ensures thin { IsTrue D.told → OnOk result (IsThin (as_read (D.cells disk.old))) }
     ensures refused { IfErr result (λ refusal. RefusesMount (D.fault_count disk.old) (D.fault_count disk.new) refusal) }
     ensures fits { IsTrue D.told → IfErr result (λ refusal. RefusalFits (as_read (D.cells disk.old)) refusal) }
-    ensures small { OnOk result (D.sector_count disk.old ≤ 2 ^ 62) }
+    ensures small { OnOk result (D.sector_count disk.old ≤ MOUNT_LIMIT) }
     ensures flushed { IsTrue D.told → OnOk result (D.cells disk.new ≡ flushed (D.cells disk.old)) }
     ensures kept { OnErr result (D.cells disk.new ≡ D.cells disk.old) }
     ensures same { IsTrue D.told → as_read (D.cells disk.new) ≡ as_read (D.cells disk.old) }

@@ -2,6 +2,7 @@
 
 ghost use Rattle.std.specs.Prelude.{◌≡◌, ◌<◌, ◌≤◌, ◌+◌, ◌^◌, ◌∷◌, ◌++◌, [], ℕ, length, slice_index, vec_len, vec_capacity};
 ghost use Rattle.std.specs.List.Sorted.{IsStrictlyIncreasing};
+ghost use Rattle.life_limits.specs.declared.TheConstants.{MOUNT_LIMIT};
 ghost use Rattle.log_record.specs.Spelling.{FitsImage};
 ghost use Rattle.thin_image.specs.Inodes.{inode_image};
 ghost use Rattle.thin_run.specs.InUse.{NoneFree};
@@ -48,9 +49,9 @@ pub(crate) struct Mount {
     pub story: MountRecord,
     ghost lowest_within: { lowest ≤ 64 },
     ghost none_free: { NoneFree in_use lowest },
-    ghost ring_small: { ring ≤ 2 ^ 62 },
+    ghost ring_small: { ring ≤ MOUNT_LIMIT },
     ghost place_within: { place ≤ ring },
-    ghost base_small: { story.base ≤ 2 ^ 62 },
+    ghost base_small: { story.base ≤ MOUNT_LIMIT },
     ghost changes_within: { changes ≤ lowest },
     ghost pending_within: { vec_len pending ≤ changes },
     ghost pending_ascends: { IsStrictlyIncreasing pending.items },
