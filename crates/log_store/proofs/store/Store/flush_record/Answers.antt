@@ -2,6 +2,7 @@ use Rattle.std.proofs.Common.{◌≡◌, ◌+◌, ◌-◌, ◌<◌, ◌≤◌, �
 use Rattle.std.specs.Prelude.{IsTrue}
 use Rattle.std.specs.List.{All}
 use Rattle.std.proofs.lemmas.List.{length-drop}
+use Rattle.life_limits.specs.declared.TheConstants.{MAX_RECORD_SECTORS}
 use Rattle.life_bytes.specs.declared.sector.Sector.{Sector}
 use Rattle.disk_model.specs.Disk.{Cell, IsImage, flushed}
 use Rattle.disk_model.specs.DiskLaws.{length-written}
@@ -54,7 +55,7 @@ few_if true x y one other = one
 few_if false x y one other = other
 
 rest_few : (job : Job) (s : State) → steps_at_rest job s ≤ 10
-rest_few Force s = few_if (nat_lt s.ring ((s.head - s.tail) + 136)) 10 5 (omega arith) (omega arith)
+rest_few Force s = few_if (nat_lt s.ring ((s.head - s.tail) + MAX_RECORD_SECTORS + 1)) 10 5 (omega arith) (omega arith)
 rest_few Clear s = few_if s.unflushed 8 7 (omega arith) (omega arith)
 rest_few Home s = few_if s.unflushed 8 7 (omega arith) (omega arith)
 rest_few WriteBack s = few_if s.unflushed 8 7 (omega arith) (omega arith)
