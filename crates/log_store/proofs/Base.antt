@@ -62,6 +62,7 @@ rest_replays s cells image rest is =
       says = has.says;
       groups = has.groups ∙ sym (overlaid-none (base_of s cells));
       next = rest.next ∙ sym (omega arith);
+      end = omega (arith, rest.end);
     }
 
 -- the dirty images with those of a record over them, as the base with the commits of the record

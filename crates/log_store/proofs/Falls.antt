@@ -1,7 +1,8 @@
 -- A store that goes down.
-use Rattle.std.proofs.Common.{◌≡◌, ℕ, Bool, List, length, refl, sym, subst, arith}
+use Rattle.std.proofs.Common.{◌≡◌, ◌+◌, ℕ, Bool, List, length, refl, sym, subst, arith}
 use Rattle.std.specs.Prelude.{IsTrue, Vec}
 use Rattle.std.specs.declared.alloc.Global.{Global}
+use Rattle.life_limits.specs.declared.TheConstants.{MAX_RECORD_SECTORS}
 use Rattle.life_bytes.specs.declared.sector.Sector.{Sector}
 use Rattle.disk_model.specs.Disk.{Cell, IsImage}
 use Rattle.log_store.specs.declared.store.Stage.TheVariants.{Down}
@@ -36,8 +37,8 @@ falls told cells count moment left old disk sectors fault store size long base i
       job = tt;
     };
     holds = λ tells image is.
-        subst (λ (b : List Sector). Replays old.anchor old.ring b old.queue.items old.durable image) (sym (base tells)) (images tells image is);
+        subst (λ (b : List Sector). Replays old.anchor old.ring (old.positions.head + MAX_RECORD_SECTORS) b old.queue.items old.durable image) (sym (base tells)) (images tells image is);
   };
-  moves = moves_none told (state_of old) _ (cells old.disk) (cells disk) refl refl refl refl base;
+  moves = moves_none told (state_of old) _ (cells old.disk) (cells disk) refl refl refl refl (omega arith) base;
   moments = moments;
 }

@@ -13,7 +13,7 @@ use Rattle.log_image.specs.Overlay.{overlaid}
 use Rattle.log_image.specs.OverlayLaws.{overlaid-append, overlaid-none}
 use Rattle.log_batch.specs.Newest.{commit_images}
 use Rattle.log_store.specs.Moments.{LeavesOnly}
-use Rattle.log_store.specs.OnDisk.{ReplaysTo, base_of}
+use Rattle.log_store.specs.OnDisk.{ReplaysUpTo, base_of}
 use Rattle.log_store.specs.State.{State}
 use Rattle.log_store.specs.Steps.{Moves}
 
@@ -31,12 +31,12 @@ pub leaves_none : (now : ℕ) (since : ℕ → List Sector → Type 0) (P : List
 leaves_none now since P = record { later = omega arith; each = λ moment image le left. inl left; keeps = λ moment image le left. left }
 
 -- one call after another
-pub leaves_both : (a b d : ℕ) (past mid since : ℕ → List Sector → Type 0) (P Q : List Sector → Type 0) → ((image : List Sector) → Q image → P image)
-    → LeavesOnly a b past mid P → LeavesOnly b d mid since Q → LeavesOnly a d past since P
-leaves_both a b d past mid since P Q weaker first second = record {
+pub leaves_both : (a b d : ℕ) (past mid since : ℕ → List Sector → Type 0) (P R Q : List Sector → Type 0) → ((image : List Sector) → R image → P image) → ((image : List Sector) → Q image → P image)
+    → LeavesOnly a b past mid R → LeavesOnly b d mid since Q → LeavesOnly a d past since P
+leaves_both a b d past mid since P R Q wider weaker first second = record {
   later = omega (arith, first.later, second.later);
   each = λ moment image le left. elim (second.each moment image (omega (arith, first.later)) left) [
-    | inl was ↦ first.each moment image le was
+    | inl was ↦ elim (first.each moment image le was) [ inl before ↦ inl before | inr is ↦ inr (wider image is) ]
     | inr is ↦ inr (weaker image is)
   ];
   keeps = λ moment image le left. second.keeps moment image (omega (arith, first.later)) (first.keeps moment image le left);
@@ -44,10 +44,11 @@ leaves_both a b d past mid since P Q weaker first second = record {
 
 -- no commit became durable
 pub moves_none : (told : Bool) (old new : State) (before after : List Cell) → new.anchor ≡ old.anchor → new.ring ≡ old.ring → new.list ≡ old.list
-    → new.durable ≡ old.durable → (IsTrue told → base_of new after ≡ base_of old before) → Moves told old new before after
-moves_none told old new before after anchor ring list durable base = record {
+    → new.durable ≡ old.durable → old.head ≤ new.head → (IsTrue told → base_of new after ≡ base_of old before) → Moves told old new before after
+moves_none told old new before after anchor ring list durable head base = record {
   anchor = anchor;
   ring = ring;
+  head = head;
   count = 0;
   within = omega arith;
   list = list;
@@ -69,6 +70,7 @@ pub moves_both : (told : Bool) (a b d : State) (first second third : List Cell) 
 moves_both told a b d first second third one two = record {
   anchor = two.anchor ∙ one.anchor;
   ring = two.ring ∙ one.ring;
+  head = omega (arith, one.head, two.head);
   count = one.count + two.count;
   within = omega (arith, one.within, two.within, ap length one.list, length-drop one.count a.list);
   list = two.list ∙ ap (drop two.count) one.list ∙ drop-drop two.count one.count a.list;
@@ -82,9 +84,9 @@ moves_both told a b d first second third one two = record {
 }
 
 -- what replays to a later base replays to the earlier one
-pub replays_earlier : (told : Bool) (a b : State) (first second : List Cell) (image : List Sector) → IsTrue told → Moves told a b first second
-    → ReplaysTo b second image → ReplaysTo a first image
-replays_earlier told a b first second image tells moves is = record {
+pub replays_earlier : (told : Bool) (head : ℕ) (a b : State) (first second : List Cell) (image : List Sector) → IsTrue told → Moves told a b first second
+    → ReplaysUpTo head b second image → ReplaysUpTo head a first image
+replays_earlier told head a b first second image tells moves is = record {
   log = is.log;
   count = moves.count + is.count;
   within = omega (arith, moves.within, is.within, ap length moves.list, length-drop moves.count a.list);
@@ -96,6 +98,19 @@ replays_earlier told a b first second image tells moves is = record {
       ∙ ap (overlaid (base_of a first)) (sym (commit_images-append (take moves.count a.list) (take is.count (drop moves.count a.list))))
       ∙ ap (λ (l : List Commit). overlaid (base_of a first) (commit_images l)) (sym (take-both moves.count is.count a.list moves.within));
   next = is.next ∙ ap (λ (n : ℕ). n + 1 + is.count) moves.durable ∙ omega arith;
+  end = is.end;
+}
+
+-- up to a head that is not below
+pub replays_wider : (head later : ℕ) (s : State) (cells : List Cell) (image : List Sector) → head ≤ later → ReplaysUpTo head s cells image → ReplaysUpTo later s cells image
+replays_wider head later s cells image le is = record {
+  log = is.log;
+  count = is.count;
+  within = is.within;
+  says = is.says;
+  groups = is.groups;
+  next = is.next;
+  end = omega (arith, is.end, le);
 }
 
 -- the first of a list

@@ -42,7 +42,7 @@ lands_home told cells count moment left old disk job store free size after law m
         (subst (λ (cs : List Cell). AtRest (flushed_home (state_of old)) cs) (sym (after tells))
         (law (state_of old) (cells old.disk) (rest_of old.stage (state_of old) (cells old.disk) free (store.holds tells))));
   };
-  moves = moves_none told (state_of old) _ (cells old.disk) (cells disk) refl refl refl refl (λ tells.
+  moves = moves_none told (state_of old) _ (cells old.disk) (cells disk) refl refl refl refl (omega arith) (λ tells.
       ap (base_of (state_of old)) (after tells) ∙ base-flushed (state_of old) (cells old.disk));
   moments = moments;
 }

@@ -14,10 +14,10 @@ use Rattle.log_store.specs.declared.store.Job.{Job}
 use Rattle.log_store.specs.declared.store.Job.TheVariants.{Idle}
 use Rattle.log_store.specs.declared.store.Store.{Store}
 use Rattle.log_store.specs.Moments.{LeavesOnly}
-use Rattle.log_store.specs.OnDisk.{AtRest, HoldsAtStage, ReplaysTo, base_of}
+use Rattle.log_store.specs.OnDisk.{AtRest, HoldsAtStage, ReplaysTo, ReplaysUpTo, base_of}
 use Rattle.log_store.specs.State.{State, state_of}
 use Rattle.log_store.specs.Steps.{Goes, IsStore, JobFits, StageFits}
-use Rattle.log_store.proofs.Going.{leaves_both, leaves_none, moves_both, moves_none, replays_earlier}
+use Rattle.log_store.proofs.Going.{leaves_both, leaves_none, moves_both, moves_none, replays_earlier, replays_wider}
 use Rattle.log_store.proofs.Sound.{held_of, rest_of, stage_free}
 
 -- what is at rest does not ask for the list, the record or the stage
@@ -41,8 +41,9 @@ goes_both told cells count moment left a b d one two = record {
   store = two.store;
   moves = moves_both told (state_of a) (state_of b) (state_of d) (cells a.disk) (cells b.disk) (cells d.disk) one.moves two.moves;
   moments = λ tells. leaves_both (moment a.disk) (moment b.disk) (moment d.disk) (left a.disk) (left b.disk) (left d.disk)
-      (ReplaysTo (state_of a) (cells a.disk)) (ReplaysTo (state_of b) (cells b.disk))
-      (λ image is. replays_earlier told (state_of a) (state_of b) (cells a.disk) (cells b.disk) image tells one.moves is)
+      (ReplaysUpTo d.positions.head (state_of a) (cells a.disk)) (ReplaysUpTo b.positions.head (state_of a) (cells a.disk)) (ReplaysUpTo d.positions.head (state_of b) (cells b.disk))
+      (λ image is. replays_wider b.positions.head d.positions.head (state_of a) (cells a.disk) image two.moves.head is)
+      (λ image is. replays_earlier told d.positions.head (state_of a) (state_of b) (cells a.disk) (cells b.disk) image tells one.moves is)
       (one.moments tells) (two.moments tells);
 }
 
@@ -75,7 +76,7 @@ goes_job told cells count moment left old job store fits = record {
     };
     holds = store.holds;
   };
-  moves = moves_none told (state_of old) (state_of old) (cells old.disk) (cells old.disk) refl refl refl refl (λ tells. refl);
+  moves = moves_none told (state_of old) (state_of old) (cells old.disk) (cells old.disk) refl refl refl refl (omega arith) (λ tells. refl);
   moments = λ tells. leaves_none (moment old.disk) (left old.disk) (ReplaysTo (state_of old) (cells old.disk));
 }
 
@@ -102,7 +103,7 @@ goes_gathered told cells count moment left old batch taken size store free = rec
     holds = λ tells. held_of old.stage _ (cells old.disk) free
         (rerest (state_of old) old.queue.items batch taken old.stage (cells old.disk) (rest_of old.stage (state_of old) (cells old.disk) free (store.holds tells)));
   };
-  moves = moves_none told (state_of old) _ (cells old.disk) (cells old.disk) refl refl refl refl (λ tells. refl);
+  moves = moves_none told (state_of old) _ (cells old.disk) (cells old.disk) refl refl refl refl (omega arith) (λ tells. refl);
   moments = λ tells. leaves_none (moment old.disk) (left old.disk) (ReplaysTo (state_of old) (cells old.disk));
 }
 
@@ -132,7 +133,7 @@ goes_written told cells count moment left old disk sectors stage store job size 
     };
     holds = holds;
   };
-  moves = moves_none told (state_of old) _ (cells old.disk) (cells disk) refl refl refl refl base;
+  moves = moves_none told (state_of old) _ (cells old.disk) (cells disk) refl refl refl refl (omega arith) base;
   moments = moments;
 }
 

@@ -1,6 +1,6 @@
 -- What a store's disk holds, whatever a stop may leave of it.
 use Rattle.std.specs.Prelude.{ℕ, ◌≡◌, ◌≤◌, ◌<◌, ◌+◌, false, None, Some, List, [], length, take, slice_index_or}
-use Rattle.life_limits.specs.declared.TheConstants.{MAX_IMAGES}
+use Rattle.life_limits.specs.declared.TheConstants.{MAX_IMAGES, MAX_RECORD_SECTORS}
 use Rattle.life_bytes.specs.declared.sector.Sector.{Sector}
 use Rattle.disk_model.specs.Disk.{Cell, IsImage, as_read, written}
 use Rattle.log_record.specs.declared.image.Image.{Image}
@@ -20,19 +20,25 @@ use Rattle.log_store.specs.State.{State}
 abbrev pub base_of : State → List Cell → List Sector
 base_of s cells = overlaid (groups_part s.anchor (as_read cells)) s.dirty
 
--- An image has a right log, and replays to the base with the images of some first commits of the list over it. Its
--- next commit number tells how many those are.
-pub record Replays (anchor ring : ℕ) (base : List Sector) (list : List Commit) (durable : ℕ) (image : List Sector) : Type 0 where
+-- An image has a right log, which ends at a position up to this one, and replays to the base with the images of some
+-- first commits of the list over it. Its next commit number tells how many those are.
+pub record Replays (anchor ring most : ℕ) (base : List Sector) (list : List Commit) (durable : ℕ) (image : List Sector) : Type 0 where
   pub log : Log
   pub count : ℕ
   pub within : count ≤ length list
   pub says : IsLog image anchor ring log
   pub groups : replayed anchor image log.records ≡ overlaid base (commit_images (take count list))
   pub next : log.next ≡ durable + 1 + count
+  pub end : log.end ≤ most
 
--- the same of a store's base, list and durable number
+-- The same of a store's base, list and durable number. The log ends not further behind a head than the longest record
+-- reaches.
+abbrev pub ReplaysUpTo : ℕ → State → List Cell → List Sector → Type 0
+ReplaysUpTo head s cells image = Replays s.anchor s.ring (head + MAX_RECORD_SECTORS) (base_of s cells) s.list s.durable image
+
+-- behind the store's own head
 abbrev pub ReplaysTo : State → List Cell → List Sector → Type 0
-ReplaysTo s cells image = Replays s.anchor s.ring (base_of s cells) s.list s.durable image
+ReplaysTo s cells image = ReplaysUpTo s.head s cells image
 
 -- An image has this log, no sector of its ring is from beyond the log's end, and it replays to the base.
 pub record HasLogTo (anchor ring : ℕ) (log : Log) (base image : List Sector) : Type 0 where

@@ -15,7 +15,7 @@ use Rattle.log_store.specs.declared.store.Job.{Job}
 use Rattle.log_store.specs.declared.store.Job.TheVariants.{Clear, Force, Home, Idle, Nothing, WriteBack}
 use Rattle.log_store.specs.declared.store.Store.{Store}
 use Rattle.log_store.specs.Moments.{LeavesOnly}
-use Rattle.log_store.specs.OnDisk.{HoldsState, IsTaken, ReplaysTo, base_of, item_of}
+use Rattle.log_store.specs.OnDisk.{HoldsState, IsTaken, ReplaysUpTo, base_of, item_of}
 use Rattle.log_store.specs.State.{State, state_of}
 
 -- the record that is being written stands in the store's buffer, and has room
@@ -89,10 +89,11 @@ pub record IsStore {D : Type 0} (told : Bool) (cells : D → List Cell) (sector_
   pub holds : IsTrue told → HoldsState (state_of store) (cells store.disk)
 
 -- Some first commits of the list became durable: they left the list, the durable number rose by their number, and the
--- base has their images over it. Where none did, all three stay.
+-- base has their images over it. Where none did, all three stay. The head did not fall.
 pub record Moves (told : Bool) (old new : State) (before after : List Cell) : Type 0 where
   pub anchor : new.anchor ≡ old.anchor
   pub ring : new.ring ≡ old.ring
+  pub head : old.head ≤ new.head
   pub count : ℕ
   pub within : count ≤ length old.list
   pub list : new.list ≡ drop count old.list
@@ -100,12 +101,13 @@ pub record Moves (told : Bool) (old new : State) (before after : List Cell) : Ty
   pub base : IsTrue told → base_of new after ≡ overlaid (base_of old before) (commit_images (take count old.list))
 
 -- A call of a store went on from one store to another: it is still right, its commits moved in order, and a stop in the
--- call left nothing but what replays to the base with some first commits of the list over it.
+-- call left nothing but what replays to the base with some first commits of the list over it, with a log that ends not
+-- further behind the head after the call than the longest record reaches.
 pub record Goes {D : Type 0} (told : Bool) (cells : D → List Cell) (sector_count moment : D → ℕ) (left : D → ℕ → List Sector → Type 0) (old new : Store D) : Type 0 where
   pub store : IsStore told cells sector_count new
   pub moves : Moves told (state_of old) (state_of new) (cells old.disk) (cells new.disk)
   pub moments : IsTrue told → LeavesOnly (moment old.disk) (moment new.disk) (left old.disk) (left new.disk)
-      (ReplaysTo (state_of old) (cells old.disk))
+      (ReplaysUpTo new.positions.head (state_of old) (cells old.disk))
 
 -- a store that begins: nothing is taken, logged or in flight
 pub record IsNew {D : Type 0} (disk : D) (anchor ring position next : ℕ) (store : Store D) : Type 0 where

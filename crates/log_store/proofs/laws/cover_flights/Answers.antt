@@ -81,6 +81,7 @@ returns-clause-written c = λ s before image covers fits end is.
         says = says;
         groups = ap (λ (l : List Sector). overlaid l (images_of log.records)) groups ∙ has.groups ∙ sym (overlaid-none (base_of s before));
         next = covers.rest.next ∙ sym (omega arith);
+        end = omega (arith, covers.rest.end);
       }
       | inr whole ↦ record {
         log = covered_log log;
@@ -89,6 +90,7 @@ returns-clause-written c = λ s before image covers fits end is.
         says = whole.1;
         groups = c.covers.ensures.replayed s.anchor image log ∙ groups ∙ sym (all_home c s before old covers fits from.1) ∙ sym (overlaid-none (base_of s before));
         next = covers.rest.next ∙ sym (omega arith);
+        end = omega (arith, covers.rest.end);
       }
     ]
 

@@ -16,6 +16,7 @@ use Rattle.log_store.specs.State.{State}
 use Rattle.log_store.specs.Landed.{RingFits, landed}
 use Rattle.log_store.specs.OnDisk.{Flies, HasLogTo, ReplaysTo, base_of, fully_written, item_of}
 use Rattle.log_store.proofs.Base.{ReadsHome, base-written, base_landed, clean_flushed, home_landed, logged_landed, replayed-more, same_home}
+use Rattle.log_store.proofs.Launch.{few_sectors}
 use Rattle.log_store.proofs.laws.flights.Goals as goal
 
 -- an image over which the record was written in part
@@ -35,6 +36,7 @@ partly c s before old image flies is part =
         says = says;
         groups = kept ∙ sym (overlaid-none (base_of s before));
         next = flies.rest.next ∙ sym (omega arith);
+        end = omega (arith, flies.rest.end);
       }
       | inr whole ↦ record {
         log = with_record log (item_of s);
@@ -45,6 +47,7 @@ partly c s before old image flies is part =
             ∙ ap (λ (l : List Sector). overlaid l s.batch) kept
             ∙ overlaid-newest (base_of s before) s.batch (commit_images (take s.taken s.list)) flies.batch.newest.same;
         next = refl;
+        end = omega (arith, (few_sectors (length s.batch) flies.batch.few).0);
       }
     ]
 

@@ -57,6 +57,7 @@ returns-clause-images c = λ s cells image rest left r is rises below within lef
       says = has.says;
       groups = has.groups ∙ sym (overlaid-none (base_of s cells));
       next = r.next ∙ sym (omega arith);
+      end = omega (arith, r.end);
     }
 
 base_done : (s : State) (cells : List Cell) (image : Image) (rest : List Image) → s.dirty ≡ image ∷ rest → image.home < s.anchor

@@ -1,4 +1,5 @@
 use Rattle.std.proofs.Common.{◌≡◌, ◌+◌, ◌≤◌, ◌^◌, List, length, refl, sym, ap, ◌∙◌, subst, arith}
+use Rattle.life_limits.specs.declared.TheConstants.{MAX_RECORD_SECTORS}
 use Rattle.life_bytes.specs.declared.sector.Sector.{Sector}
 use Rattle.disk_model.specs.Disk.{Cell, IsImage}
 use Rattle.disk_model.specs.DiskLaws.{length-written}
@@ -18,7 +19,7 @@ fits_before s cells before same fits = record { some = fits.some; place = omega 
 
 -- what replays to the base before replays to the base now
 moved : (s : State) (cells before : List Cell) (image : List Sector) → base_of s cells ≡ base_of s before → ReplaysTo s before image → ReplaysTo s cells image
-moved s cells before image same is = subst (λ (b : List Sector). Replays s.anchor s.ring b s.list s.durable image) (sym same) is
+moved s cells before image same is = subst (λ (b : List Sector). Replays s.anchor s.ring (s.head + MAX_RECORD_SECTORS) b s.list s.durable image) (sym same) is
 
 by_stage : (c : goal.After-cover_flights) (s : State) (cells : List Cell) (image : List Sector) (stage : Stage) → (stage ≡ Cover → s.head + 1 ≤ 2 ^ 63) → RingFits s cells
     → IsImage cells image → HoldsAtStage stage s cells → ReplaysTo s cells image

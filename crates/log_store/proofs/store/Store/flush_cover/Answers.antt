@@ -9,12 +9,12 @@ use Rattle.log_store.specs.declared.store.Store.{Store}
 use Rattle.log_store.specs.declared.store.Stage.{Stage}
 use Rattle.log_store.specs.declared.store.Stage.TheVariants.{Free}
 use Rattle.log_store.specs.Landed.{RingFits, covered}
-use Rattle.log_store.specs.OnDisk.{AtRest, Covers, HoldsAtStage, ReplaysTo, base_of, cover_record, cover_written}
+use Rattle.log_store.specs.OnDisk.{AtRest, Covers, HoldsAtStage, ReplaysTo, ReplaysUpTo, base_of, cover_record, cover_written}
 use Rattle.log_store.specs.State.{State, state_of}
 use Rattle.log_store.specs.Steps.{Goes, StageFits}
 use Rattle.log_store.proofs.Base.{base-flushed}
 use Rattle.log_store.proofs.Falls.{falls}
-use Rattle.log_store.proofs.Going.{leaves, moves_none}
+use Rattle.log_store.proofs.Going.{leaves, moves_none, replays_wider}
 use Rattle.log_store.proofs.store.Store.flush_cover.Goals as goal
 
 pub returns-then-eq-clause-goes : goal.returns-then-eq-clause-goes
@@ -60,9 +60,10 @@ returns-then-eq-clause-goes g c =
             subst (λ (n : ℕ). AtRest (now n c.covered.new.self.tail) (g.D.Disk.cells disk)) (sym c.covered.ensures.head)
             (subst (λ (n : ℕ). AtRest (now (old.positions.head + 1) n) (g.D.Disk.cells disk)) (sym c.covered.ensures.tail) (after tells));
       };
-      moves = moves_none g.D.Disk.told s _ cells (g.D.Disk.cells disk) refl refl refl refl (λ tells.
+      moves = moves_none g.D.Disk.told s _ cells (g.D.Disk.cells disk) refl refl refl refl (omega (arith, c.covered.ensures.head)) (λ tells.
           ap (base_of s) (c.in-Ok.ensures.flushed tells) ∙ base-flushed s cells);
-      moments = λ tells. leaves _ _ _ _ cells (ReplaysTo s cells) (c.in-Ok.ensures.time tells) (images tells);
+      moments = λ tells. leaves _ _ _ _ cells (ReplaysUpTo c.covered.new.self.head s cells) (c.in-Ok.ensures.time tells)
+          (λ image is. replays_wider old.positions.head c.covered.new.self.head s cells image (omega (arith, c.covered.ensures.head)) (images tells image is));
     }
 
 pub returns-else-eq-clause-goes : goal.returns-else-eq-clause-goes
@@ -108,9 +109,10 @@ returns-else-eq-clause-goes g c =
             subst (λ (n : ℕ). AtRest (now n c.covered.new.self.tail) (g.D.Disk.cells disk)) (sym c.covered.ensures.head)
             (subst (λ (n : ℕ). AtRest (now (old.positions.head + 1) n) (g.D.Disk.cells disk)) (sym c.covered.ensures.tail) (after tells));
       };
-      moves = moves_none g.D.Disk.told s _ cells (g.D.Disk.cells disk) refl refl refl refl (λ tells.
+      moves = moves_none g.D.Disk.told s _ cells (g.D.Disk.cells disk) refl refl refl refl (omega (arith, c.covered.ensures.head)) (λ tells.
           ap (base_of s) (c.in-Ok.ensures.flushed tells) ∙ base-flushed s cells);
-      moments = λ tells. leaves _ _ _ _ cells (ReplaysTo s cells) (c.in-Ok.ensures.time tells) (images tells);
+      moments = λ tells. leaves _ _ _ _ cells (ReplaysUpTo c.covered.new.self.head s cells) (c.in-Ok.ensures.time tells)
+          (λ image is. replays_wider old.positions.head c.covered.new.self.head s cells image (omega (arith, c.covered.ensures.head)) (images tells image is));
     }
 
 pub returns-in-Err-clause-goes : goal.returns-in-Err-clause-goes

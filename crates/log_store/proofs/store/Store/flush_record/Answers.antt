@@ -20,11 +20,11 @@ use Rattle.log_store.specs.declared.store.Stage.TheVariants.{Cover, Free, Record
 use Rattle.log_store.specs.declared.store.Job.{Job}
 use Rattle.log_store.specs.declared.store.Job.TheVariants.{Clear, Force, Home, Idle}
 use Rattle.log_store.specs.Landed.{RingFits, landed}
-use Rattle.log_store.specs.OnDisk.{AtRest, Flies, HoldsAtStage, ReplaysTo, base_of, fully_written, half_written, item_of}
+use Rattle.log_store.specs.OnDisk.{AtRest, Flies, HoldsAtStage, ReplaysTo, ReplaysUpTo, base_of, fully_written, half_written, item_of}
 use Rattle.log_store.specs.State.{State, state_of}
 use Rattle.log_store.specs.Steps.{Goes, IsInFlight, StageFits}
 use Rattle.log_store.proofs.Falls.{falls}
-use Rattle.log_store.proofs.Going.{leaves}
+use Rattle.log_store.proofs.Going.{leaves, replays_wider}
 use Rattle.log_store.proofs.Launch.{groups_batch, length_batch}
 use Rattle.std.proofs.Common.{Bool, true, cond}
 use Rattle.std.specs.Prelude.{nat_lt}
@@ -170,13 +170,15 @@ returns-then-is_empty-clause-goes g c =
       moves = record {
         anchor = refl;
         ring = refl;
+        head = omega (arith, head_is);
         count = old.taken;
         within = flight.batch.within;
         list = list_is;
         durable = refl;
         base = λ tells. ap (λ (l : List Image). overlaid (groups_part old.anchor (as_read (g.D.Disk.cells disk))) l) dirty_is ∙ base tells;
       };
-      moments = λ tells. leaves _ _ _ _ cells (ReplaysTo s cells) (c.in-Ok.ensures.time tells) (images tells);
+      moments = λ tells. leaves _ _ _ _ cells (ReplaysUpTo c.wrote.new.self.head s cells) (c.in-Ok.ensures.time tells)
+          (λ image is. replays_wider old.positions.head c.wrote.new.self.head s cells image (omega (arith, head_is)) (images tells image is));
     }
 
 pub returns-else-is_empty-clause-goes : goal.returns-else-is_empty-clause-goes
@@ -268,13 +270,15 @@ returns-else-is_empty-clause-goes g c =
       moves = record {
         anchor = refl;
         ring = refl;
+        head = omega (arith, head_is);
         count = old.taken;
         within = flight.batch.within;
         list = list_is;
         durable = refl;
         base = λ tells. ap (λ (l : List Image). overlaid (groups_part old.anchor (as_read (g.D.Disk.cells disk))) l) dirty_is ∙ base tells;
       };
-      moments = λ tells. leaves _ _ _ _ cells (ReplaysTo s cells) (c.in-Ok.ensures.time tells) (images tells);
+      moments = λ tells. leaves _ _ _ _ cells (ReplaysUpTo c.wrote.new.self.head s cells) (c.in-Ok.ensures.time tells)
+          (λ image is. replays_wider old.positions.head c.wrote.new.self.head s cells image (omega (arith, head_is)) (images tells image is));
     }
 
 pub returns-else-is_empty-clause-outcome : goal.returns-else-is_empty-clause-outcome

@@ -65,6 +65,7 @@ replays_more s commit cells image is = record {
   says = is.says;
   groups = is.groups ∙ ap (λ (l : List Commit). overlaid (base_of s cells) (commit_images l)) (sym (take-append-le is.count s.list (commit ∷ []) is.within));
   next = is.next;
+  end = is.end;
 }
 
 holds_more : (stage : Stage) (s : State) (commit : Commit) (cells : List Cell) → HoldsAtStage stage s cells → HoldsAtStage stage (more_list s commit) cells

@@ -1,5 +1,6 @@
 use Rattle.std.proofs.Common.{◌≡◌, ◌+◌, ◌-◌, ◌%◌, ◌<◌, ℕ, List, length, take, drop, sym, ap, ◌∙◌, subst, arith}
 use Rattle.std.specs.Prelude.{IsTrue}
+use Rattle.life_limits.specs.declared.TheConstants.{MAX_RECORD_SECTORS}
 use Rattle.life_bytes.specs.declared.sector.Sector.{Sector}
 use Rattle.disk_model.specs.Disk.{Cell, IsImage, Elapses, IsPartlyWritten, written}
 use Rattle.disk_model.specs.DiskLaws.{IsImage-partly_written, length-written}
@@ -58,7 +59,7 @@ returns-in-Ok-clause-goes g c =
     let base_half : (tells : IsTrue g.D.Disk.told) → base_of s cells ≡ base_of s (held tells).0 = λ tells.
     ap (base_of s) (held tells).2 ∙ c.flights.ensures.half_base s (held tells).0 (before_fits tells) in
     let images : (tells : IsTrue g.D.Disk.told) → (image : List Sector) → IsImage (fully_written s (held tells).0) image → ReplaysTo s cells image = λ tells image is.
-    subst (λ (b : List Sector). Replays old.anchor old.ring b old.queue.items old.durable image) (sym (base_half tells))
+    subst (λ (b : List Sector). Replays old.anchor old.ring (old.positions.head + MAX_RECORD_SECTORS) b old.queue.items old.durable image) (sym (base_half tells))
     (c.flights.ensures.full s (held tells).0 image (held tells).1 (before_fits tells) is) in
     let restaged : (tells : IsTrue g.D.Disk.told) → Flies (record s { stage = Record }) (held tells).0 = λ tells.
     let flies = (held tells).1 in record { rest = rerest s old.queue.items old.batch old.taken Record (held tells).0 flies.rest; goes = flies.goes; batch = flies.batch } in
@@ -99,7 +100,7 @@ returns-in-Err-clause-goes g c =
     let base_half : (tells : IsTrue g.D.Disk.told) → base_of s cells ≡ base_of s (held tells).0 = λ tells.
     ap (base_of s) (held tells).2 ∙ c.flights.ensures.half_base s (held tells).0 (before_fits tells) in
     let images : (tells : IsTrue g.D.Disk.told) → (image : List Sector) → IsImage (fully_written s (held tells).0) image → ReplaysTo s cells image = λ tells image is.
-    subst (λ (b : List Sector). Replays old.anchor old.ring b old.queue.items old.durable image) (sym (base_half tells))
+    subst (λ (b : List Sector). Replays old.anchor old.ring (old.positions.head + MAX_RECORD_SECTORS) b old.queue.items old.durable image) (sym (base_half tells))
     (c.flights.ensures.full s (held tells).0 image (held tells).1 (before_fits tells) is) in
     let restaged : (tells : IsTrue g.D.Disk.told) → Flies (record s { stage = Record }) (held tells).0 = λ tells.
     let flies = (held tells).1 in record { rest = rerest s old.queue.items old.batch old.taken Record (held tells).0 flies.rest; goes = flies.goes; batch = flies.batch } in
