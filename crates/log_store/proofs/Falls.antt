@@ -35,6 +35,7 @@ falls told cells count moment left old disk sectors fault store size long base i
       buffer = long;
       stage = tt;
       job = tt;
+      asks = tt;
     };
     holds = λ tells image is.
         subst (λ (b : List Sector). Replays old.anchor old.ring (old.positions.head + MAX_RECORD_SECTORS) b old.queue.items old.durable image) (sym (base tells)) (images tells image is);

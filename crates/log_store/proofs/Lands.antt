@@ -10,19 +10,19 @@ use Rattle.log_store.specs.Landed.{flushed_home}
 use Rattle.log_store.specs.Moments.{LeavesOnly}
 use Rattle.log_store.specs.OnDisk.{AtRest, ReplaysTo, base_of}
 use Rattle.log_store.specs.State.{State, state_of}
-use Rattle.log_store.specs.Steps.{Goes, IsStore}
+use Rattle.log_store.specs.Steps.{Goes, IsStore, JobAsks}
 use Rattle.log_store.proofs.Base.{base-flushed}
 use Rattle.log_store.proofs.Going.{moves_none}
 use Rattle.log_store.proofs.Sound.{held_of, job_free, rest_of, stage_free}
 
 -- what was written home is flushed
 pub lands_home : {D : Type 0} (told : Bool) (cells : D → List Cell) (count moment : D → ℕ) (left : D → ℕ → List Sector → Type 0) (old : Store D) (disk : D) (job : Job)
-    → IsStore told cells count old → old.stage ≡ Free → count disk ≡ count old.disk
+    → IsStore told cells count old → JobAsks job old.queue.items old.batch old.ring old.positions.head old.positions.tail → old.stage ≡ Free → count disk ≡ count old.disk
     → (IsTrue told → cells disk ≡ flushed (cells old.disk))
     → ((s : State) (cs : List Cell) → AtRest s cs → AtRest (flushed_home s) (flushed cs))
     → (IsTrue told → LeavesOnly (moment old.disk) (moment disk) (left old.disk) (left disk) (ReplaysTo (state_of old) (cells old.disk)))
     → Goes told cells count moment left old (record old { disk = disk; unflushed = false; job = job })
-lands_home told cells count moment left old disk job store free size after law moments = record {
+lands_home told cells count moment left old disk job store asks free size after law moments = record {
   store = record {
     sound = record {
       place = omega (arith, store.sound.place);
@@ -37,6 +37,7 @@ lands_home told cells count moment left old disk job store free size after law m
       buffer = store.sound.buffer;
       stage = stage_free old.stage _ old.sectors.items old.count free;
       job = job_free old.stage job free;
+      asks = asks;
     };
     holds = λ tells. held_of old.stage _ _ free
         (subst (λ (cs : List Cell). AtRest (flushed_home (state_of old)) cs) (sym (after tells))

@@ -16,7 +16,7 @@ use Rattle.log_store.specs.declared.store.Store.{Store}
 use Rattle.log_store.specs.Moments.{LeavesOnly}
 use Rattle.log_store.specs.OnDisk.{AtRest, HoldsAtStage, ReplaysTo, ReplaysUpTo, base_of}
 use Rattle.log_store.specs.State.{State, state_of}
-use Rattle.log_store.specs.Steps.{Goes, IsStore, JobFits, StageFits}
+use Rattle.log_store.specs.Steps.{Goes, IsStore, JobAsks, JobFits, StageFits}
 use Rattle.log_store.proofs.Going.{leaves_both, leaves_none, moves_both, moves_none, replays_earlier, replays_wider}
 use Rattle.log_store.proofs.Sound.{held_of, rest_of, stage_free}
 
@@ -57,8 +57,8 @@ any_job Cover job fits = absurd fits
 
 -- another job
 pub goes_job : {D : Type 0} (told : Bool) (cells : D → List Cell) (count moment : D → ℕ) (left : D → ℕ → List Sector → Type 0) (old : Store D) (job : Job)
-    → IsStore told cells count old → JobFits old.stage job → Goes told cells count moment left old (record old { job = job })
-goes_job told cells count moment left old job store fits = record {
+    → IsStore told cells count old → JobFits old.stage job → JobAsks job old.queue.items old.batch old.ring old.positions.head old.positions.tail → Goes told cells count moment left old (record old { job = job })
+goes_job told cells count moment left old job store fits asks = record {
   store = record {
     sound = record {
       place = store.sound.place;
@@ -73,6 +73,7 @@ goes_job told cells count moment left old job store fits = record {
       buffer = store.sound.buffer;
       stage = store.sound.stage;
       job = fits;
+      asks = asks;
     };
     holds = store.holds;
   };
@@ -82,9 +83,9 @@ goes_job told cells count moment left old job store fits = record {
 
 -- another record that is gathered
 pub goes_gathered : {D : Type 0} (told : Bool) (cells : D → List Cell) (count moment : D → ℕ) (left : D → ℕ → List Sector → Type 0) (old : Store D)
-    (batch : List Image) (taken size : ℕ) → IsStore told cells count old → old.stage ≡ Free
+    (batch : List Image) (taken size : ℕ) → IsStore told cells count old → old.stage ≡ Free → JobAsks old.job old.queue.items batch old.ring old.positions.head old.positions.tail
     → Goes told cells count moment left old (record old { batch = batch; taken = taken; count = size })
-goes_gathered told cells count moment left old batch taken size store free = record {
+goes_gathered told cells count moment left old batch taken size store free asks = record {
   store = record {
     sound = record {
       place = store.sound.place;
@@ -99,6 +100,7 @@ goes_gathered told cells count moment left old batch taken size store free = rec
       buffer = store.sound.buffer;
       stage = stage_free old.stage _ old.sectors.items size free;
       job = store.sound.job;
+      asks = asks;
     };
     holds = λ tells. held_of old.stage _ (cells old.disk) free
         (rerest (state_of old) old.queue.items batch taken old.stage (cells old.disk) (rest_of old.stage (state_of old) (cells old.disk) free (store.holds tells)));
@@ -130,6 +132,7 @@ goes_written told cells count moment left old disk sectors stage store job size 
       buffer = long;
       stage = fits;
       job = job;
+      asks = store.sound.asks;
     };
     holds = holds;
   };

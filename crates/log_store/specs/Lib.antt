@@ -2,5 +2,6 @@ pub mod State
 pub mod Moments
 pub mod OnDisk
 pub mod Landed
+pub mod Calls
 pub mod Steps
 pub mod Outcome

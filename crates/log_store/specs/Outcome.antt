@@ -1,5 +1,5 @@
 -- What a step of a job answers, and when.
-use Rattle.std.specs.Prelude.{ℕ, ◌≡◌, ◌≢◌, ◌⊎◌, ◌≤◌, ◌<◌, ◌+◌, ◌-◌, ◌*◌, ◌^◌, nat_lt, if◌then◌else◌, false, true, [], length, Result, Ok, Err, Option, Some, None}
+use Rattle.std.specs.Prelude.{ℕ, ◌≡◌, ◌≢◌, ◌⊎◌, ◌≤◌, ◌<◌, ◌+◌, ◌-◌, ◌*◌, ◌^◌, nat_lt, if◌then◌else◌, false, [], length, Result, Ok, Err, Option, Some, None}
 use Rattle.life_limits.specs.declared.TheConstants.{MAX_RECORD_SECTORS}
 use Rattle.life_ports.specs.Faults.{Rose}
 use Rattle.log_record.specs.Spelling.{sector_count}
@@ -12,7 +12,9 @@ use Rattle.log_store.specs.declared.store.Job.{Job}
 use Rattle.log_store.specs.declared.store.Job.TheVariants.{Clear, Force, Home, Idle, Nothing, WriteBack}
 use Rattle.log_store.specs.declared.store.Stage.{Stage}
 use Rattle.log_store.specs.declared.store.Stage.TheVariants.{Free, Half, Record, Cover, Down}
+use Rattle.log_store.specs.Calls.{DeviceCall, Flushes, Writes, after_gather, call_at, gathered}
 use Rattle.log_store.specs.State.{State}
+use Rattle.log_store.specs.Steps.{Covering}
 
 -- what a job is for: room is made for a force alone
 abbrev pub goal_of : Job → Job
@@ -56,31 +58,9 @@ steps_left s job = 600 * length s.list + 2 * length s.dirty + steps_at s.stage j
 abbrev pub HomeFails : State → State → Type 0
 HomeFails old new = (old.dirty ≢ []) × (new.dirty ≡ old.dirty) × (old.stage ≡ Free) × (new.stage ≡ Free)
 
--- sectors were written home, and none is left that is dirty: a flush comes next
-abbrev pub FlushesHome : State → Type 0
-FlushesHome s = (s.dirty ≡ []) × (s.unflushed ≡ true)
-
--- whether the step that comes is a flush where nothing is in flight. A force flushes only to make room for the record of
--- so many images that it gathered.
-abbrev pub FlushesAtRest : Job → State → ℕ → Type 0
-FlushesAtRest Force s images = (s.ring < (s.head - s.tail) + sector_count images + 1) × FlushesHome s
-FlushesAtRest Clear s images = FlushesHome s
-FlushesAtRest Home s images = FlushesHome s
-FlushesAtRest WriteBack s images = FlushesHome s
-FlushesAtRest Nothing s images = ⊥
-FlushesAtRest Idle s images = ⊥
-
--- whether it is one at a stage: what was written of the log is flushed next
-abbrev pub FlushesAt : Stage → Job → State → ℕ → Type 0
-FlushesAt Free job s images = FlushesAtRest job s images
-FlushesAt Half job s images = ⊥
-FlushesAt Record job s images = Unit {0}
-FlushesAt Cover job s images = Unit {0}
-FlushesAt (Down fault) job s images = ⊥
-
--- the same, of a step from one state to another; a step that is no flush is a write
-abbrev pub IsFlush : State → State → Job → Type 0
-IsFlush old new job = FlushesAt old.stage job old (length new.batch)
+-- the call of a step from one state to another, where it does not end before one
+abbrev pub step_call : State → State → Job → DeviceCall
+step_call old new was = call_at old.stage was (gathered old new)
 
 -- a cover comes next, and would end past the last position
 abbrev pub CoverEndsPast : State → Type 0
@@ -113,14 +93,56 @@ EndsExactly (Err WriteFault) old new was = EndsPastAt old.stage was old (length 
 EndsExactly (Err FlushFault) old new was = EndsPastAt old.stage was old (length new.batch) → ⊥
 EndsExactly (Err (faults.Down fault)) old new was = EndsPastAt old.stage was old (length new.batch) → ⊥
 
--- Where a step leaves the head and the tail. A record that is flushed moves the head behind it, and a cover that is
--- flushed moves both; no other step moves either.
-abbrev pub MovesPositions : Stage → State → State → Type 0
-MovesPositions Record old new = (new.tail ≡ old.tail) × ((new.head ≡ old.head) ⊎ (new.head ≡ old.head + sector_count (length old.batch)))
-MovesPositions Cover old new = ((new.tail ≡ old.tail) × (new.head ≡ old.head)) ⊎ ((new.tail ≡ old.head) × (new.head ≡ old.head + 1))
-MovesPositions Free old new = (new.tail ≡ old.tail) × (new.head ≡ old.head)
-MovesPositions Half old new = (new.tail ≡ old.tail) × (new.head ≡ old.head)
-MovesPositions (Down fault) old new = (new.tail ≡ old.tail) × (new.head ≡ old.head)
+-- the head, the tail and the durable number stay
+pub record Stays (old new : State) : Type 0 where
+  pub head : new.head ≡ old.head
+  pub tail : new.tail ≡ old.tail
+  pub durable : new.durable ≡ old.durable
+
+-- a record is flushed: the head is behind it, and its commits are durable
+pub record Lands (old new : State) : Type 0 where
+  pub head : new.head ≡ old.head + sector_count (length old.batch)
+  pub tail : new.tail ≡ old.tail
+  pub durable : new.durable ≡ old.durable + old.taken
+
+-- a cover is flushed: it is the tail, and the head is behind it
+pub record Covered (old new : State) : Type 0 where
+  pub head : new.head ≡ old.head + 1
+  pub tail : new.tail ≡ old.head
+  pub durable : new.durable ≡ old.durable
+
+-- Where a step leaves the head, the tail and the durable number. The flush of a record and that of a cover alone move
+-- them. A cover that was written to make room does not end the job, any other cover does, and the jobs that write one end
+-- at nothing else.
+abbrev pub StepMoves : Result Progress StoreFault → Stage → State → State → Job → Type 0
+StepMoves (Ok More) Free old new was = Stays old new
+StepMoves (Ok Ended) Free old new was = Stays old new × (Covering was → ⊥)
+StepMoves (Ok progress) Half old new was = Stays old new
+StepMoves (Ok progress) Record old new was = Lands old new
+StepMoves (Ok More) Cover old new was = Covered old new × (was ≡ Clear)
+StepMoves (Ok Ended) Cover old new was = Covered old new × (was ≡ Home)
+StepMoves (Ok progress) (Down fault) old new was = ⊥
+StepMoves (Err fault) stage old new was = Stays old new
+
+-- 1 where the log is no longer than a cover: the next record pays for the cover
+abbrev pub owed : State → ℕ
+owed s = 1 - (s.head - (s.tail + 1))
+
+-- the covers that a job writes and no record pays for
+abbrev pub covers_of : Job → ℕ
+covers_of Home = 1
+covers_of Clear = 0
+covers_of Force = 0
+covers_of WriteBack = 0
+covers_of Nothing = 0
+covers_of Idle = 0
+
+-- How far the head rises: a commit pays for a record of the longest kind and a cover in front of it, and so many covers
+-- are paid for by themselves, of which some are still to come.
+abbrev pub Rises : ℕ → ℕ → State → State → Type 0
+Rises covers left old new =
+    new.head + owed old + (MAX_RECORD_SECTORS + 1) * old.durable + left
+    ≤ old.head + owed new + (MAX_RECORD_SECTORS + 1) * new.durable + covers
 
 -- What a step answers, with the state and the job before and after it, and the disk's counts of faults. After a failed
 -- write of the log or a failed flush the store is down, with the count then, and answers that and nothing else.
@@ -128,17 +150,18 @@ abbrev pub IsOutcome : Result Progress StoreFault → State → State → Job �
 IsOutcome (Ok More) old new was job before now = (goal_of job ≡ goal_of was) × (steps_left new job < steps_left old was) × (before ≤ now)
 IsOutcome (Ok Ended) old new was job before now = (job ≡ Idle) × IsDone was new × (before ≤ now)
 IsOutcome (Err WriteFault) old new was job before now =
-    (job ≡ Idle) × Rose before now × ((new.stage ≡ Down now) ⊎ HomeFails old new) × (IsFlush old new was → ⊥)
-IsOutcome (Err FlushFault) old new was job before now = (job ≡ Idle) × Rose before now × (new.stage ≡ Down now) × IsFlush old new was
-IsOutcome (Err PositionEnd) old new was job before now = (job ≡ Idle) × (new.stage ≡ Free) × (new.head ≡ old.head)
+    (job ≡ Idle) × Rose before now × ((new.stage ≡ Down now) ⊎ HomeFails old new) × Writes (step_call old new was)
+IsOutcome (Err FlushFault) old new was job before now = (job ≡ Idle) × Rose before now × (new.stage ≡ Down now) × Flushes (step_call old new was)
+IsOutcome (Err PositionEnd) old new was job before now = (job ≡ Idle) × (new ≡ after_gather was old new) × (now ≡ before)
 IsOutcome (Err (faults.Down fault)) old new was job before now = (job ≡ Idle) × (old.stage ≡ Down fault) × (new ≡ old) × (now ≡ before)
 
--- What a whole job answers in place of its end, with the state after it and the disk's counts before and after it.
-abbrev pub IsFault : StoreFault → State → ℕ → ℕ → Type 0
-IsFault WriteFault new before now = Rose before now
-IsFault FlushFault new before now = Rose before now × (new.stage ≡ Down now)
-IsFault PositionEnd new before now = (new.stage ≡ Free) × ((2 ^ 63 < new.head + sector_count (length new.batch)) ⊎ (2 ^ 63 < new.head + 1))
-IsFault (faults.Down fault) new before now = new.stage ≡ Down fault
+-- What a whole job answers in place of its end, with the state after it and the disk's counts before and after it. It
+-- comes to the positions' end where the next record, a cover included, would end past the last one.
+abbrev pub IsFault : StoreFault → Job → State → ℕ → ℕ → Type 0
+IsFault WriteFault job new before now = Rose before now
+IsFault FlushFault job new before now = Rose before now × (new.stage ≡ Down now)
+IsFault PositionEnd job new before now = (new.stage ≡ Free) × EndsPast (goal_of job) new (length new.batch)
+IsFault (faults.Down fault) job new before now = new.stage ≡ Down fault
 
 -- the count that a store that is down keeps
 abbrev pub down_count : Stage → Option ℕ

@@ -1,9 +1,11 @@
 -- What each call of a store keeps, and what it moves.
-use Rattle.std.specs.Prelude.{ℕ, ◌≡◌, ◌≤◌, ◌<◌, ◌+◌, ◌-◌, ◌%◌, ◌^◌, Bool, false, IsTrue, List, [], length, take, drop}
+use Rattle.std.specs.Prelude.{ℕ, ◌≡◌, ◌≢◌, ◌≤◌, ◌<◌, ◌+◌, ◌-◌, ◌%◌, ◌^◌, Bool, false, IsTrue, List, [], length, take, drop}
 use Rattle.std.specs.List.{All}
-use Rattle.life_limits.specs.declared.TheConstants.{MAX_RECORD_SECTORS}
+use Rattle.life_limits.specs.declared.TheConstants.{MAX_IMAGES, MAX_RECORD_SECTORS}
 use Rattle.life_bytes.specs.declared.sector.Sector.{Sector}
 use Rattle.disk_model.specs.Disk.{Cell}
+use Rattle.log_record.specs.declared.image.Commit.{Commit}
+use Rattle.log_record.specs.declared.image.Image.{Image}
 use Rattle.log_record.specs.Spelling.{FitsFields, sector_count, spelled}
 use Rattle.log_image.specs.Log.{IsGroupImage}
 use Rattle.log_image.specs.Overlay.{overlaid}
@@ -57,6 +59,21 @@ MovesHome Force = ⊥
 MovesHome Nothing = ⊥
 MovesHome Idle = ⊥
 
+-- Room is being made for a record, since it had none. The commits that wait are not empty, and it has the images of some.
+pub record IsShort (list : List Commit) (batch : List Image) (ring head tail : ℕ) : Type 0 where
+  pub some : list ≢ []
+  pub few : length batch ≤ MAX_IMAGES
+  pub short : ring < (head - tail) + sector_count (length batch) + 1
+
+-- what a job asks of the store's fields
+abbrev pub JobAsks : Job → List Commit → List Image → ℕ → ℕ → ℕ → Type 0
+JobAsks Clear list batch ring head tail = IsShort list batch ring head tail
+JobAsks Force list batch ring head tail = Unit {0}
+JobAsks Home list batch ring head tail = Unit {0}
+JobAsks WriteBack list batch ring head tail = Unit {0}
+JobAsks Nothing list batch ring head tail = Unit {0}
+JobAsks Idle list batch ring head tail = Unit {0}
+
 -- the jobs that move the tail
 abbrev pub Covering : Job → Type 0
 Covering Clear = Unit {0}
@@ -82,6 +99,7 @@ pub record IsSound {D : Type 0} (sector_count : ℕ) (store : Store D) : Type 0 
   pub buffer : length store.sectors.items ≡ MAX_RECORD_SECTORS
   pub stage : StageFits store.stage (state_of store) store.sectors.items store.count
   pub job : JobFits store.stage store.job
+  pub asks : JobAsks store.job store.queue.items store.batch store.ring store.positions.head store.positions.tail
 
 -- a store whose fields and whose disk are right
 pub record IsStore {D : Type 0} (told : Bool) (cells : D → List Cell) (sector_count : D → ℕ) (store : Store D) : Type 0 where

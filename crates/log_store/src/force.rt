@@ -3,11 +3,11 @@ ghost use Rattle.std.specs.Prelude.{ℕ, ◌≡◌, ◌+◌, List, [], false, Is
 ghost use Rattle.life_bytes.specs.declared.sector.Sector.{Sector};
 ghost use Rattle.disk_model.specs.Disk.{IsImage};
 ghost use Rattle.log_store.specs.OnDisk.{ReplaysTo};
-ghost use Rattle.log_store.specs.declared.store.Job.TheVariants.{Idle};
+ghost use Rattle.log_store.specs.declared.store.Job.TheVariants.{Force, Home, Idle, WriteBack};
 ghost use Rattle.log_store.specs.declared.store.Stage.TheVariants.{Down};
 ghost use Rattle.log_store.specs.Outcome.{IsDone, IsFault};
 ghost use Rattle.log_store.specs.State.{state_of};
-ghost use Rattle.log_store.specs.Steps.{Goes, IsStore};
+ghost use Rattle.log_store.specs.Steps.{Goes, IsStore, JobAsks};
 
 use crate::fault::{Progress, StoreFault};
 use crate::laws::states;
@@ -21,7 +21,7 @@ impl<D: Disk> Store<D> {
         ensures goes { Goes D.told D.cells D.sector_count D.moment D.left_since self.old self.new }
         ensures idle { self.new.job ≡ Idle }
         ensures done { OnOk result (IsDone self.old.job (state_of self.new)) }
-        ensures fault { IfErr result (λ fault. IsFault fault (state_of self.new) (D.fault_count self.old.disk) (D.fault_count self.new.disk)) }
+        ensures fault { IfErr result (λ fault. IsFault fault self.old.job (state_of self.new) (D.fault_count self.old.disk) (D.fault_count self.new.disk)) }
         ensures down { (fault : ℕ) → self.old.stage ≡ Down fault → (result ≡ Err (StoreFault.Down fault)) × (self.new ≡ record self.old { job = Idle }) }
     {
         loop {
@@ -43,7 +43,7 @@ impl<D: Disk> Store<D> {
         // What a stop leaves from then on has every commit: its next commit number is the answer and one.
         ensures acknowledged { IsTrue D.told → OnOk result ((image : List Sector) → IsImage (D.cells self.new.disk) image
             → ReplaysTo (state_of self.new) (D.cells self.new.disk) image) }
-        ensures fault { IfErr result (λ fault. IsFault fault (state_of self.new) (D.fault_count self.old.disk) (D.fault_count self.new.disk)) }
+        ensures fault { IfErr result (λ fault. IsFault fault Force (state_of self.new) (D.fault_count self.old.disk) (D.fault_count self.new.disk)) }
         ensures down { (fault : ℕ) → self.old.stage ≡ Down fault → (result ≡ Err (StoreFault.Down fault)) × (self.new.disk ≡ self.old.disk) }
     {
         states();
@@ -59,7 +59,7 @@ impl<D: Disk> Store<D> {
         ensures goes { Goes D.told D.cells D.sector_count D.moment D.left_since self.old self.new }
         ensures idle { self.new.job ≡ Idle }
         ensures home { OnOk result ((self.new.dirty.images ≡ []) × (self.new.unflushed ≡ false)) }
-        ensures fault { IfErr result (λ fault. IsFault fault (state_of self.new) (D.fault_count self.old.disk) (D.fault_count self.new.disk)) }
+        ensures fault { IfErr result (λ fault. IsFault fault WriteBack (state_of self.new) (D.fault_count self.old.disk) (D.fault_count self.new.disk)) }
         ensures down { (fault : ℕ) → self.old.stage ≡ Down fault → (result ≡ Err (StoreFault.Down fault)) × (self.new.disk ≡ self.old.disk) }
     {
         self.begin(Job::WriteBack);
@@ -76,7 +76,7 @@ impl<D: Disk> Store<D> {
         ensures goes { Goes D.told D.cells D.sector_count D.moment D.left_since self.old self.new }
         ensures idle { self.new.job ≡ Idle }
         ensures moved { OnOk result (self.new.positions.head ≡ self.new.positions.tail + 1) }
-        ensures fault { IfErr result (λ fault. IsFault fault (state_of self.new) (D.fault_count self.old.disk) (D.fault_count self.new.disk)) }
+        ensures fault { IfErr result (λ fault. IsFault fault Home (state_of self.new) (D.fault_count self.old.disk) (D.fault_count self.new.disk)) }
         ensures down { (fault : ℕ) → self.old.stage ≡ Down fault → (result ≡ Err (StoreFault.Down fault)) × (self.new.disk ≡ self.old.disk) }
     {
         self.begin(Job::Home);
@@ -87,6 +87,7 @@ impl<D: Disk> Store<D> {
     fn begin(&mut self, job: Job)
         requires store { IsStore D.told D.cells D.sector_count self.old }
         requires idle { self.old.job ≡ Idle }
+        requires asks { JobAsks job self.old.queue.items self.old.batch self.old.ring self.old.positions.head self.old.positions.tail }
         ensures goes { Goes D.told D.cells D.sector_count D.moment D.left_since self.old self.new }
         ensures job { self.new ≡ record self.old { job = job } }
     {

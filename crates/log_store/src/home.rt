@@ -1,7 +1,8 @@
 // The steps that write logged sectors home.
 ghost use Rattle.std.specs.Prelude.{◌≡◌, ◌≢◌, [], IsTrue};
 ghost use Rattle.log_store.specs.declared.store.Stage.TheVariants.{Free};
-ghost use Rattle.log_store.specs.Outcome.{EndsExactly, IsOutcome, MovesPositions};
+ghost use Rattle.log_store.specs.Calls.{Made, call_of};
+ghost use Rattle.log_store.specs.Outcome.{EndsExactly, IsOutcome, Rises, StepMoves, covers_of};
 ghost use Rattle.log_store.specs.State.{state_of};
 ghost use Rattle.log_store.specs.Steps.{Goes, IsStore, MovesHome};
 
@@ -21,7 +22,9 @@ impl<D: Disk> Store<D> {
         ensures batch { self.new.batch ≡ self.old.batch }
         ensures outcome { IsOutcome result (state_of self.old) (state_of self.new) self.old.job self.new.job (D.fault_count self.old.disk) (D.fault_count self.new.disk) }
         ensures end { EndsExactly result (state_of self.old) (state_of self.new) self.old.job }
-        ensures positions { MovesPositions self.old.stage (state_of self.old) (state_of self.new) }
+        ensures moves { StepMoves result self.old.stage (state_of self.old) (state_of self.new) self.old.job }
+        ensures rises { Rises (covers_of self.old.job) (covers_of self.new.job) (state_of self.old) (state_of self.new) }
+        ensures call { Made D.told D.cells D.arming (call_of result (state_of self.old) (state_of self.new) self.old.job) result self.old.disk self.new.disk }
     {
         homes();
         let Some(image) = self.dirty.first() else {
@@ -51,7 +54,9 @@ impl<D: Disk> Store<D> {
         ensures batch { self.new.batch ≡ self.old.batch }
         ensures outcome { IsOutcome result (state_of self.old) (state_of self.new) self.old.job self.new.job (D.fault_count self.old.disk) (D.fault_count self.new.disk) }
         ensures end { EndsExactly result (state_of self.old) (state_of self.new) self.old.job }
-        ensures positions { MovesPositions self.old.stage (state_of self.old) (state_of self.new) }
+        ensures moves { StepMoves result self.old.stage (state_of self.old) (state_of self.new) self.old.job }
+        ensures rises { Rises (covers_of self.old.job) (covers_of self.new.job) (state_of self.old) (state_of self.new) }
+        ensures call { Made D.told D.cells D.arming (call_of result (state_of self.old) (state_of self.new) self.old.job) result self.old.disk self.new.disk }
     {
         homes();
         match self.disk.flush() {

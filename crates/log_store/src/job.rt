@@ -2,7 +2,8 @@
 ghost use Rattle.std.specs.Prelude.{ℕ, ◌≡◌, ◌≢◌, []};
 ghost use Rattle.log_store.specs.declared.store.Job.TheVariants.{Force, Home, Idle, Nothing, WriteBack};
 ghost use Rattle.log_store.specs.declared.store.Stage.TheVariants.{Down, Free};
-ghost use Rattle.log_store.specs.Outcome.{EndsExactly, IsOutcome, MovesPositions};
+ghost use Rattle.log_store.specs.Calls.{Made, call_of};
+ghost use Rattle.log_store.specs.Outcome.{EndsExactly, IsOutcome, Rises, StepMoves, covers_of};
 ghost use Rattle.log_store.specs.State.{state_of};
 ghost use Rattle.log_store.specs.Steps.{Covering, Goes, IsStore};
 
@@ -44,7 +45,9 @@ impl<D: Disk> Store<D> {
         ensures goes { Goes D.told D.cells D.sector_count D.moment D.left_since self.old self.new }
         ensures outcome { IsOutcome result (state_of self.old) (state_of self.new) self.old.job self.new.job (D.fault_count self.old.disk) (D.fault_count self.new.disk) }
         ensures end { EndsExactly result (state_of self.old) (state_of self.new) self.old.job }
-        ensures positions { MovesPositions self.old.stage (state_of self.old) (state_of self.new) }
+        ensures moves { StepMoves result self.old.stage (state_of self.old) (state_of self.new) self.old.job }
+        ensures rises { Rises (covers_of self.old.job) (covers_of self.new.job) (state_of self.old) (state_of self.new) }
+        ensures call { Made D.told D.cells D.arming (call_of result (state_of self.old) (state_of self.new) self.old.job) result self.old.disk self.new.disk }
         ensures down { (fault : ℕ) → self.old.stage ≡ Down fault → (result ≡ Err (StoreFault.Down fault)) × (self.new ≡ record self.old { job = Idle }) }
     {
         match self.stage {
@@ -66,7 +69,9 @@ impl<D: Disk> Store<D> {
         ensures goes { Goes D.told D.cells D.sector_count D.moment D.left_since self.old self.new }
         ensures outcome { IsOutcome result (state_of self.old) (state_of self.new) self.old.job self.new.job (D.fault_count self.old.disk) (D.fault_count self.new.disk) }
         ensures end { EndsExactly result (state_of self.old) (state_of self.new) self.old.job }
-        ensures positions { MovesPositions self.old.stage (state_of self.old) (state_of self.new) }
+        ensures moves { StepMoves result self.old.stage (state_of self.old) (state_of self.new) self.old.job }
+        ensures rises { Rises (covers_of self.old.job) (covers_of self.new.job) (state_of self.old) (state_of self.new) }
+        ensures call { Made D.told D.cells D.arming (call_of result (state_of self.old) (state_of self.new) self.old.job) result self.old.disk self.new.disk }
     {
         match self.job {
             Job::Force => self.force_step(),
@@ -87,7 +92,9 @@ impl<D: Disk> Store<D> {
         ensures goes { Goes D.told D.cells D.sector_count D.moment D.left_since self.old self.new }
         ensures outcome { IsOutcome result (state_of self.old) (state_of self.new) self.old.job self.new.job (D.fault_count self.old.disk) (D.fault_count self.new.disk) }
         ensures end { EndsExactly result (state_of self.old) (state_of self.new) self.old.job }
-        ensures positions { MovesPositions self.old.stage (state_of self.old) (state_of self.new) }
+        ensures moves { StepMoves result self.old.stage (state_of self.old) (state_of self.new) self.old.job }
+        ensures rises { Rises (covers_of self.old.job) (covers_of self.new.job) (state_of self.old) (state_of self.new) }
+        ensures call { Made D.told D.cells D.arming (call_of result (state_of self.old) (state_of self.new) self.old.job) result self.old.disk self.new.disk }
     {
         if self.queue.is_empty() {
             self.job = Job::Idle;
@@ -110,7 +117,9 @@ impl<D: Disk> Store<D> {
         ensures batch { self.new.batch ≡ self.old.batch }
         ensures outcome { IsOutcome result (state_of self.old) (state_of self.new) self.old.job self.new.job (D.fault_count self.old.disk) (D.fault_count self.new.disk) }
         ensures end { EndsExactly result (state_of self.old) (state_of self.new) self.old.job }
-        ensures positions { MovesPositions self.old.stage (state_of self.old) (state_of self.new) }
+        ensures moves { StepMoves result self.old.stage (state_of self.old) (state_of self.new) self.old.job }
+        ensures rises { Rises (covers_of self.old.job) (covers_of self.new.job) (state_of self.old) (state_of self.new) }
+        ensures call { Made D.told D.cells D.arming (call_of result (state_of self.old) (state_of self.new) self.old.job) result self.old.disk self.new.disk }
     {
         if !self.dirty.is_empty() {
             return self.write_home();
@@ -129,7 +138,9 @@ impl<D: Disk> Store<D> {
         ensures goes { Goes D.told D.cells D.sector_count D.moment D.left_since self.old self.new }
         ensures outcome { IsOutcome result (state_of self.old) (state_of self.new) self.old.job self.new.job (D.fault_count self.old.disk) (D.fault_count self.new.disk) }
         ensures end { EndsExactly result (state_of self.old) (state_of self.new) self.old.job }
-        ensures positions { MovesPositions self.old.stage (state_of self.old) (state_of self.new) }
+        ensures moves { StepMoves result self.old.stage (state_of self.old) (state_of self.new) self.old.job }
+        ensures rises { Rises (covers_of self.old.job) (covers_of self.new.job) (state_of self.old) (state_of self.new) }
+        ensures call { Made D.told D.cells D.arming (call_of result (state_of self.old) (state_of self.new) self.old.job) result self.old.disk self.new.disk }
     {
         if !self.dirty.is_empty() {
             return self.write_home();

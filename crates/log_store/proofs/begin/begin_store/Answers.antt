@@ -34,6 +34,7 @@ returns-clause-store g c =
         buffer = omega (arith, c.in-Ok-vec.ensures.len, c.in-Ok-vec.sectors.ok.0);
         stage = tt;
         job = tt;
+        asks = tt;
       };
       holds = λ tells.
           let size : c.args.anchor + 1 + c.args.ring ≤ length reads = omega (arith, c.requires.place, length-as_read cells, g.met.D.Disk.cells_fit tells c.args.disk) in

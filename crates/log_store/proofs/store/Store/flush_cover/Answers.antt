@@ -55,6 +55,7 @@ returns-then-eq-clause-goes g c =
           buffer = sound.buffer;
           stage = tt;
           job = tt;
+          asks = tt;
         };
         holds = λ tells.
             subst (λ (n : ℕ). AtRest (now n c.covered.new.self.tail) (g.D.Disk.cells disk)) (sym c.covered.ensures.head)
@@ -104,6 +105,7 @@ returns-else-eq-clause-goes g c =
           buffer = sound.buffer;
           stage = tt;
           job = tt;
+          asks = tt;
         };
         holds = λ tells.
             subst (λ (n : ℕ). AtRest (now n c.covered.new.self.tail) (g.D.Disk.cells disk)) (sym c.covered.ensures.head)

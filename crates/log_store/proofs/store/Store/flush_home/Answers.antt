@@ -34,7 +34,7 @@ returns-then-eq-clause-goes g c =
     let old = c.args.self.now in
     let s : State = state_of old in
     let cells = g.D.Disk.cells old.disk in
-    lands_home g.D.Disk.told g.D.Disk.cells g.D.Disk.sector_count g.D.Disk.moment g.D.Disk.left_since old c.flush.new.self Idle c.requires.store c.requires.stage
+    lands_home g.D.Disk.told g.D.Disk.cells g.D.Disk.sector_count g.D.Disk.moment g.D.Disk.left_since old c.flush.new.self Idle c.requires.store tt c.requires.stage
     c.in-Ok.ensures.sectors c.in-Ok.ensures.flushed c.homes.ensures.flushed
     (λ tells. leaves _ _ _ _ cells (ReplaysTo s cells) (c.in-Ok.ensures.time tells)
     (λ image is. rest_replays s cells image (rest_of old.stage s cells c.requires.stage (c.requires.store.holds tells)) is))
@@ -44,7 +44,7 @@ returns-else-eq-clause-goes g c =
     let old = c.args.self.now in
     let s : State = state_of old in
     let cells = g.D.Disk.cells old.disk in
-    lands_home g.D.Disk.told g.D.Disk.cells g.D.Disk.sector_count g.D.Disk.moment g.D.Disk.left_since old c.flush.new.self old.job c.requires.store c.requires.stage
+    lands_home g.D.Disk.told g.D.Disk.cells g.D.Disk.sector_count g.D.Disk.moment g.D.Disk.left_since old c.flush.new.self old.job c.requires.store c.requires.store.sound.asks c.requires.stage
     c.in-Ok.ensures.sectors c.in-Ok.ensures.flushed c.homes.ensures.flushed
     (λ tells. leaves _ _ _ _ cells (ReplaysTo s cells) (c.in-Ok.ensures.time tells)
     (λ image is. rest_replays s cells image (rest_of old.stage s cells c.requires.stage (c.requires.store.holds tells)) is))

@@ -22,7 +22,7 @@ use Rattle.log_store.specs.declared.store.Job.TheVariants.{Clear, Force, Home, I
 use Rattle.log_store.specs.Landed.{RingFits, landed}
 use Rattle.log_store.specs.OnDisk.{AtRest, Flies, HoldsAtStage, ReplaysTo, ReplaysUpTo, base_of, fully_written, half_written, item_of}
 use Rattle.log_store.specs.State.{State, state_of}
-use Rattle.log_store.specs.Steps.{Goes, IsInFlight, StageFits}
+use Rattle.log_store.specs.Steps.{Goes, IsInFlight, JobAsks, JobFits, StageFits}
 use Rattle.log_store.proofs.Falls.{falls}
 use Rattle.log_store.proofs.Going.{leaves, replays_wider}
 use Rattle.log_store.proofs.Launch.{groups_batch, length_batch}
@@ -39,6 +39,15 @@ use Rattle.log_store.specs.Outcome.{steps_at, steps_at_rest}
 use Rattle.log_store.specs.declared.store.Job.TheVariants.{Nothing, WriteBack}
 use Rattle.log_store.proofs.Launch.{All-put_all, commit_images-split, length-put_all-le}
 use Rattle.log_store.proofs.store.Store.flush_record.Goals as goal
+
+-- only a force writes records
+forced : (job : Job) (list : List Commit) (batch : List Image) (ring head tail : ℕ) → JobFits Record job → JobAsks job list batch ring head tail
+forced Force list batch ring head tail fits = tt
+forced Clear list batch ring head tail fits = absurd fits
+forced Home list batch ring head tail fits = absurd fits
+forced WriteBack list batch ring head tail fits = absurd fits
+forced Nothing list batch ring head tail fits = absurd fits
+forced Idle list batch ring head tail fits = absurd fits
 
 record_cover : Record ≡ Cover → ⊥
 record_cover same = cc
@@ -159,6 +168,7 @@ returns-then-is_empty-clause-goes g c =
           buffer = sound.buffer;
           stage = tt;
           job = tt;
+          asks = tt;
         };
         holds = λ tells.
             subst (λ (n : ℕ). AtRest (now n c.wrote.new.self.tail c.drop_front.new.queue.items c.put_all.new.self.images) (g.D.Disk.cells disk)) (sym head_is)
@@ -259,6 +269,7 @@ returns-else-is_empty-clause-goes g c =
           buffer = sound.buffer;
           stage = tt;
           job = tt;
+          asks = forced old.job _ _ _ _ _ (subst (λ (st : Stage). JobFits st old.job) c.requires.stage sound.job);
         };
         holds = λ tells.
             subst (λ (n : ℕ). AtRest (now n c.wrote.new.self.tail c.drop_front.new.queue.items c.put_all.new.self.images) (g.D.Disk.cells disk)) (sym head_is)

@@ -1,4 +1,4 @@
-use Rattle.std.proofs.Common.{◌≡◌, ◌≤◌, ℕ, refl, sym, ap, ◌∙◌, arith, Ok, Err}
+use Rattle.std.proofs.Common.{◌≡◌, refl, sym, ap, ◌∙◌, arith, Ok, Err}
 use Rattle.log_store.specs.declared.store.Store.{Store}
 use Rattle.log_store.proofs.Ways.{goes_both, goes_job}
 use Rattle.log_store.proofs.store.Store.run.Goals as goal
@@ -7,7 +7,7 @@ ok_err : {T E : Type 0} {x : T} {e : E} → Ok x ≡ Err e → ⊥
 ok_err same = cc
 
 pub loop-init : goal.loop-init
-loop-init g c = record { goes = goes_job g.D.Disk.told g.D.Disk.cells g.D.Disk.sector_count g.D.Disk.moment g.D.Disk.left_since c.args.self.now c.args.self.now.job c.requires c.requires.sound.job; goal = refl; faults = omega arith; down = λ fault is. refl }
+loop-init g c = record { goes = goes_job g.D.Disk.told g.D.Disk.cells g.D.Disk.sector_count g.D.Disk.moment g.D.Disk.left_since c.args.self.now c.args.self.now.job c.requires c.requires.sound.job c.requires.sound.asks; goal = refl; faults = omega arith; down = λ fault is. refl }
 
 pub returns-in_err-advance-clause-goes : goal.returns-in_err-advance-clause-goes
 returns-in_err-advance-clause-goes g c =

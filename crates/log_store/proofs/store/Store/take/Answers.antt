@@ -1,6 +1,8 @@
 use Rattle.std.proofs.Common.{◌≡◌, ℕ, List, [], ◌∷◌, ◌++◌, length, sym, ap, ◌∙◌, subst, arith}
 use Rattle.log_record.specs.declared.image.Image.{Image}
 use Rattle.log_record.specs.declared.image.Commit.{Commit}
+use Rattle.log_store.specs.declared.store.Job.{Job}
+use Rattle.log_store.specs.declared.store.Job.TheVariants.{Clear, Force, Home, Idle, Nothing, WriteBack}
 use Rattle.log_store.specs.declared.store.Stage.{Stage}
 use Rattle.log_store.specs.declared.store.Stage.TheVariants.{Cover, Down, Free, Half, Record}
 use Rattle.log_store.specs.State.{State, state_of}
@@ -14,7 +16,7 @@ use Rattle.log_image.specs.Log.{IsGroupImage}
 use Rattle.log_image.specs.Overlay.{overlaid}
 use Rattle.log_batch.specs.Newest.{IsCommit, IsNewestOf, commit_images}
 use Rattle.log_store.specs.OnDisk.{Flies, HoldsAtStage, IsTaken, ReplaysTo, base_of}
-use Rattle.log_store.specs.Steps.{IsInFlight, StageFits}
+use Rattle.log_store.specs.Steps.{IsInFlight, JobAsks, StageFits}
 use Rattle.log_store.proofs.Ways.{rerest}
 use Rattle.log_store.proofs.store.Store.take.Goals as goal
 
@@ -76,6 +78,19 @@ holds_more Cover s commit cells (before, covers, at) =
     (before, record { rest = rerest s (s.list ++ commit ∷ []) s.batch s.taken s.stage before covers.rest; dirty = covers.dirty; unflushed = covers.unflushed }, at)
 holds_more (Down fault) s commit cells holds = λ image is. replays_more s commit cells image (holds image is)
 
+more_some : (list : List Commit) (commit : Commit) → list ++ commit ∷ [] ≡ [] → ⊥
+more_some [] commit same = cc
+more_some (first ∷ list) commit same = cc
+
+asks_more : (job : Job) (list : List Commit) (commit : Commit) (batch : List Image) (ring head tail : ℕ) → JobAsks job list batch ring head tail
+    → JobAsks job (list ++ commit ∷ []) batch ring head tail
+asks_more Clear list commit batch ring head tail asks = record { some = λ same. more_some list commit same; few = asks.few; short = asks.short }
+asks_more Force list commit batch ring head tail asks = tt
+asks_more Home list commit batch ring head tail asks = tt
+asks_more WriteBack list commit batch ring head tail asks = tt
+asks_more Nothing list commit batch ring head tail asks = tt
+asks_more Idle list commit batch ring head tail asks = tt
+
 pub returns-clause-store : goal.returns-clause-store
 returns-clause-store g c =
     let old = c.args.self.now in
@@ -99,6 +114,7 @@ returns-clause-store g c =
         buffer = sound.buffer;
         stage = subst (λ (l : List Commit). StageFits old.stage (record s { list = l }) old.sectors.items old.count) (sym items) (fits_more old.stage s commit old.sectors.items old.count sound.stage);
         job = sound.job;
+        asks = subst (λ (l : List Commit). JobAsks old.job l old.batch old.ring old.positions.head old.positions.tail) (sym items) (asks_more old.job old.queue.items commit old.batch old.ring old.positions.head old.positions.tail sound.asks);
       };
       holds = λ tells. subst (λ (l : List Commit). HoldsAtStage old.stage (record s { list = l }) (g.D.Disk.cells old.disk)) (sym items)
           (holds_more old.stage s commit (g.D.Disk.cells old.disk) (c.requires.store.holds tells));

@@ -42,6 +42,7 @@ returns-in-Ok-clause-goes g c =
           buffer = sound.buffer;
           stage = stage_free old.stage _ old.sectors.items old.count c.requires.stage;
           job = sound.job;
+          asks = sound.asks;
         };
         holds = λ tells.
             let within : old.anchor ≤ length cells = omega (arith, sound.place, g.met.D.Disk.cells_fit tells old.disk) in
@@ -89,6 +90,7 @@ returns-in-Err-clause-goes g c =
           buffer = sound.buffer;
           stage = stage_free old.stage _ old.sectors.items old.count c.requires.stage;
           job = job_free old.stage _ c.requires.stage;
+          asks = tt;
         };
         holds = λ tells.
             let within : old.anchor ≤ length cells = omega (arith, sound.place, g.met.D.Disk.cells_fit tells old.disk) in

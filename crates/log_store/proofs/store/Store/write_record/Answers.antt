@@ -28,7 +28,7 @@ use Rattle.log_store.proofs.store.Store.write_record.Goals as goal
 
 pub returns-then-head-from-clause-goes : goal.returns-then-head-from-clause-goes
 returns-then-head-from-clause-goes g c =
-    goes_job g.D.Disk.told g.D.Disk.cells g.D.Disk.sector_count g.D.Disk.moment g.D.Disk.left_since c.args.self.now Idle c.requires.store (job_free c.args.self.now.stage Idle c.requires.stage)
+    goes_job g.D.Disk.told g.D.Disk.cells g.D.Disk.sector_count g.D.Disk.moment g.D.Disk.left_since c.args.self.now Idle c.requires.store (job_free c.args.self.now.stage Idle c.requires.stage) tt
 
 pub slice_bounds-write-end : goal.slice_bounds-write-end
 slice_bounds-write-end g c =
