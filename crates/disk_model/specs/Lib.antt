@@ -1,5 +1,6 @@
 pub mod Disk
 pub mod DiskLaws
+pub mod DiskView
 pub mod FaultDisk
 pub mod Gift
 pub mod Images
@@ -9,3 +10,4 @@ pub mod MemoryEntry
 pub mod MemoryImages
 pub mod OneSector
 pub mod Outcome
+pub mod View

@@ -3,6 +3,7 @@
 
 mod blank;
 mod disk;
+mod disk_view;
 mod fault_disk;
 mod images;
 mod memory_disk;
@@ -10,10 +11,13 @@ mod memory_images;
 mod outcome;
 #[cfg(test)]
 mod tests;
+mod view;
 
 pub use blank::Blank;
 pub use disk::Disk;
+pub use disk_view::DiskView;
 pub use fault_disk::FaultDisk;
 pub use images::Images;
 pub use memory_disk::MemoryDisk;
 pub use memory_images::MemoryImages;
+pub use view::View;
