@@ -1,3 +1,4 @@
 pub mod ByPath
+pub mod Passing
 pub mod Picked
 pub mod Replay

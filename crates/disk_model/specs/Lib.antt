@@ -10,4 +10,5 @@ pub mod MemoryEntry
 pub mod MemoryImages
 pub mod OneSector
 pub mod Outcome
+pub mod StopDisk
 pub mod View

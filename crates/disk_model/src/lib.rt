@@ -9,6 +9,8 @@ mod images;
 mod memory_disk;
 mod memory_images;
 mod outcome;
+mod stop_disk;
+mod stops;
 #[cfg(test)]
 mod tests;
 mod view;
@@ -20,4 +22,6 @@ pub use fault_disk::FaultDisk;
 pub use images::Images;
 pub use memory_disk::MemoryDisk;
 pub use memory_images::MemoryImages;
+pub use stop_disk::StopDisk;
+pub use stops::Stops;
 pub use view::View;
