@@ -1,4 +1,5 @@
-ghost use Rattle.std.specs.Prelude.{◌≡◌, ◌≤◌, IsTrue, IfOk};
+ghost use Rattle.std.specs.Prelude.{◌≡◌, ◌<◌, ◌≤◌, IsTrue, IfOk};
+ghost use Rattle.disk_model.specs.View.{OnlyRead};
 
 use super::*;
 use life_bytes::Sector;
@@ -62,6 +63,105 @@ fn a_disk_fails_as_planned(rt: HostRuntime) -> Result<(), Fail> {
     }
     let mut disk: FaultDisk<MemoryDisk> = blank_disk(alloc)?;
     assert_eq!(rt; write_flush_read(&mut disk), ([Ok(()); 3], 6, 0));
+    Ok(())
+}
+
+// Reads a sector of a view. Gives the answer, the mark that was read, and the count of faults.
+fn look<V: View>(view: &mut V, at: u64) -> (Result<(), Failed>, u8, u64)
+    requires { at < V.sector_count view.old }
+    ensures { V.only_read view.old view.new }
+{
+    let mut sector = marked(9);
+    let read = view.read(at, &mut sector);
+    (read, sector.bytes[0], view.faults())
+}
+
+// The same of a disk that is lent, from its last sector down to the one before.
+fn look_twice<D: Disk>(disk: &mut D) -> [(Result<(), Failed>, u8, u64); 2]
+    requires { 2 ≤ D.sector_count disk.old }
+    ensures { OnlyRead D.told D.cells D.sector_count D.fault_count D.arming D.moment D.left_since
+        disk.old disk.new }
+{
+    let mut view = DiskView::new(disk);
+    let sectors = view.sectors();
+    [look(&mut view, sectors - 1), look(&mut view, sectors - 2)]
+}
+
+#[test]
+fn a_disk_is_read_where_it_is_lent(rt: HostRuntime) -> Result<(), Fail> {
+    let alloc = rt.alloc();
+    let mut inner = MemoryDisk::new(alloc, 3)?;
+    inner.write(1, &[marked(5), marked(6)])?;
+    let mut disk = FaultDisk::new(inner, vec![in alloc; 2]?);
+    assert_eq!(rt;
+        look_twice(&mut disk),
+        [(Ok(()), 6, 0), (Err(Failed), 9, 1)]
+    );
+    assert_eq!(rt; look_twice(&mut disk), [(Ok(()), 6, 1), (Ok(()), 5, 1)]);
+    Ok(())
+}
+
+// The marks of the sectors 1 and 2.
+fn marks<D: Disk>(disk: &mut D) -> [u8; 2]
+    requires { 4 ≤ D.sector_count disk.old }
+    ensures { D.sector_count disk.new ≡ D.sector_count disk.old }
+{
+    let mut sectors = [marked(9); 2];
+    let _ = disk.read(1, &mut sectors[0]);
+    let _ = disk.read(2, &mut sectors[1]);
+    [sectors[0].bytes[0], sectors[1].bytes[0]]
+}
+
+// Arms a stop, writes the sectors 1 and 2, flushes, writes them again, and reads. Gives the four answers,
+// whether the disk has stopped, and the count of faults.
+fn write_until<D: Stops>(
+    disk: &mut D,
+    writes: u64,
+    sectors: u64,
+) -> ([Result<(), Failed>; 4], bool, u64)
+    requires some { 1 ≤ writes }
+    requires four { 4 ≤ D.sector_count disk.old }
+    ensures { D.sector_count disk.new ≡ D.sector_count disk.old }
+{
+    let mut sector = Sector::zero();
+    disk.arm(writes, sectors);
+    let answers = [
+        disk.write(1, &[marked(5), marked(6)]),
+        disk.flush(),
+        disk.write(1, &[marked(7), marked(8)]),
+        disk.read(1, &mut sector),
+    ];
+    (answers, disk.stopped(), disk.faults())
+}
+
+#[test]
+fn a_disk_stops_within_a_write(rt: HostRuntime) -> Result<(), Fail> {
+    let alloc = rt.alloc();
+    let goes_on = Ok(());
+    let fails = Err(Failed);
+    for (writes, sectors, answers, faults, left) in [
+        (1, 0, [fails; 4], 4, [0, 0]),
+        (1, 1, [fails; 4], 4, [5, 0]),
+        (1, 70, [fails; 4], 4, [5, 6]),
+        (2, 0, [goes_on, goes_on, fails, fails], 2, [5, 6]),
+        (2, 1, [goes_on, goes_on, fails, fails], 2, [7, 6]),
+        (2, 2, [goes_on, goes_on, fails, fails], 2, [7, 8]),
+        (3, 0, [goes_on; 4], 0, [7, 8]),
+    ] {
+        let inner: MemoryDisk = blank_disk(alloc)?;
+        let mut disk = StopDisk::new(inner);
+        assert_eq!(rt; disk.sectors(), 4);
+        assert_eq!(rt;
+            write_until(&mut disk, writes, sectors),
+            (answers, faults > 0, faults),
+            "at {writes} {sectors}"
+        );
+        disk.restart();
+        assert!(rt; !disk.stopped());
+        assert_eq!(rt; marks(&mut disk), left, "at {writes} {sectors}");
+        assert_eq!(rt; disk.faults(), faults);
+        assert_eq!(rt; disk.inner().faults(), 0);
+    }
     Ok(())
 }
 
