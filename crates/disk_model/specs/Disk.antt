@@ -76,27 +76,33 @@ pub record Stopping : Type 0 where
   pub writes : ℕ
   pub sectors : ℕ
 
--- what is armed, and whether the disk has stopped, since when each call fails
+-- what is armed; whether the disk has stopped, since when each call fails; and how many calls failed so before it went on
 pub record Arming : Type 0 where
   pub armed : Option Stopping
   pub stopped : Bool
+  pub earlier : ℕ
 
--- nothing is armed, and the disk goes on: all that a disk says that knows no such stops
+-- nothing is armed, and the disk goes on and never stopped: all that a disk says that knows no such stops
 abbrev pub unarmed : Arming
-unarmed = record { armed = None; stopped = false }
+unarmed = record { armed = None; stopped = false; earlier = 0 }
 
 -- an armed stop that is so many writes away, brought one write nearer: with none left the disk stops
-abbrev pub brought_nearer : ℕ → ℕ → Arming
-brought_nearer zero sectors = record { armed = Some (record { writes = 0; sectors = sectors }); stopped = true }
-brought_nearer (suc zero) sectors = record { armed = Some (record { writes = 0; sectors = sectors }); stopped = true }
-brought_nearer (suc (suc writes)) sectors = record { armed = Some (record { writes = writes + 1; sectors = sectors }); stopped = false }
+abbrev pub brought_nearer : ℕ → ℕ → Arming → Arming
+brought_nearer zero sectors arming = record arming { armed = Some (record { writes = 0; sectors = sectors }); stopped = true }
+brought_nearer (suc zero) sectors arming = record arming { armed = Some (record { writes = 0; sectors = sectors }); stopped = true }
+brought_nearer (suc (suc writes)) sectors arming = record arming { armed = Some (record { writes = writes + 1; sectors = sectors }) }
 
 -- what a write leaves, whether it fails or not: a disk that has stopped, or on which nothing is armed, stays so
-abbrev pub after_write_by : Bool → Option Stopping → Arming
-after_write_by true armed = record { armed = armed; stopped = true }
-after_write_by false None = unarmed
-after_write_by false (Some stopping) = brought_nearer stopping.writes stopping.sectors
+abbrev pub after_write_by : Bool → Option Stopping → Arming → Arming
+after_write_by true armed arming = arming
+after_write_by false None arming = arming
+after_write_by false (Some stopping) arming = brought_nearer stopping.writes stopping.sectors arming
 
 -- the same
 abbrev pub after_write : Arming → Arming
-after_write arming = after_write_by arming.stopped arming.armed
+after_write arming = after_write_by arming.stopped arming.armed arming
+
+-- what so many writes leave, one after the other
+abbrev pub after_writes : ℕ → Arming → Arming
+after_writes zero arming = arming
+after_writes (suc writes) arming = after_writes writes (after_write arming)

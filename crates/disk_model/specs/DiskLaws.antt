@@ -1,9 +1,9 @@
 -- What follows from the words of a disk: what a write that was cut short leaves, and what reads and stops give after each call.
-use Rattle.std.specs.Prelude.{◌≡◌, ◌≤◌, ◌⊎◌, ◌+◌, ◌++◌, ℕ, zero, suc, List, [], ◌∷◌, length, take, drop, Contains, refl}
-use Rattle.std.proofs.Common.{sym, ◌∙◌, ap, subst, inl, inr, arith}
+use Rattle.std.specs.Prelude.{◌≡◌, ◌≤◌, ◌⊎◌, ◌+◌, ◌++◌, ℕ, zero, suc, Bool, true, false, Option, None, Some, List, [], ◌∷◌, length, take, drop, Contains, refl}
+use Rattle.std.proofs.Common.{sym, ◌∙◌, ap, subst, inl, inr, zero-add, arith}
 use Rattle.std.proofs.lemmas.Grind.{common_steps}
 use Rattle.life_bytes.specs.declared.sector.Sector.{Sector}
-use Rattle.disk_model.specs.Disk.{Cell, MayLeave, IsImage, as_read, settled, settled_as, flushed, HasOneImage, overwritten, maybe_left, written, IsAttempted, IsPartlyWritten}
+use Rattle.disk_model.specs.Disk.{Arming, Stopping, brought_nearer, after_write_by, after_write, after_writes, Cell, MayLeave, IsImage, as_read, settled, settled_as, flushed, HasOneImage, overwritten, maybe_left, written, IsAttempted, IsPartlyWritten}
 
 -- Where a write may have been cut short: each sector of its range is the old one or its piece, and the others are the old ones.
 abbrev pub IsTorn : ℕ → List Sector → List Sector → List Sector → Type 0
@@ -277,3 +277,41 @@ length-image [] [] is = refl
 length-image [] (sector ∷ image) is = absurd is
 length-image (cell ∷ cells) [] is = absurd is
 length-image (cell ∷ cells) (sector ∷ image) is = ap suc (length-image cells image is.1)
+
+-- ---- what is armed
+
+earlier-brought_nearer : (writes sectors : ℕ) (arming : Arming) → (brought_nearer writes sectors arming).earlier ≡ arming.earlier
+earlier-brought_nearer zero sectors arming = refl
+earlier-brought_nearer (suc zero) sectors arming = refl
+earlier-brought_nearer (suc (suc writes)) sectors arming = refl
+
+earlier-after_write_by : (stopped : Bool) (armed : Option Stopping) (arming : Arming) → (after_write_by stopped armed arming).earlier ≡ arming.earlier
+earlier-after_write_by true armed arming = refl
+earlier-after_write_by false None arming = refl
+earlier-after_write_by false (Some stopping) arming = earlier-brought_nearer stopping.writes stopping.sectors arming
+
+-- a write changes nothing of what was before the disk went on
+pub earlier-after_write : (arming : Arming) → (after_write arming).earlier ≡ arming.earlier
+earlier-after_write arming = earlier-after_write_by arming.stopped arming.armed arming
+
+pub earlier-after_writes : (writes : ℕ) (arming : Arming) → (after_writes writes arming).earlier ≡ arming.earlier
+earlier-after_writes zero arming = refl
+earlier-after_writes (suc writes) arming = earlier-after_writes writes (after_write arming) ∙ earlier-after_write arming
+
+-- some writes and then some more
+pub after_writes-sum : (first then_more : ℕ) (arming : Arming) → after_writes (first + then_more) arming ≡ after_writes then_more (after_writes first arming)
+after_writes-sum zero then_more arming = ap (λ n. after_writes n arming) (zero-add then_more)
+after_writes-sum (suc first) then_more arming =
+    let count : suc first + then_more ≡ suc (first + then_more) = omega arith in
+    ap (λ n. after_writes n arming) count ∙ after_writes-sum first then_more (after_write arming)
+
+stopped-after_write_by : (stopped : Bool) (armed : Option Stopping) (arming : Arming) → stopped ≡ true → after_write_by stopped armed arming ≡ arming
+stopped-after_write_by true armed arming is = refl
+stopped-after_write_by false armed arming is = absurd (cc is)
+
+-- a disk that has stopped stays so
+pub after_writes-stopped : (writes : ℕ) (arming : Arming) → arming.stopped ≡ true → after_writes writes arming ≡ arming
+after_writes-stopped zero arming is = refl
+after_writes-stopped (suc writes) arming is =
+    let same = stopped-after_write_by arming.stopped arming.armed arming is in
+    ap (λ a. after_writes writes a) same ∙ after_writes-stopped writes arming is

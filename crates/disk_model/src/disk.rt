@@ -32,7 +32,8 @@ pub trait Disk: Drop {
     /// What a stop at some moment since then may have left, in a call or between two.
     ghost left_since: { Self → ℕ → List Sector → Type 0 };
 
-    /// What is armed, and whether the disk has stopped: nothing and no, but for a kind that tests stops.
+    /// What is armed, whether the disk has stopped, and how many calls failed by earlier stops: nothing, no
+    /// and none, but for a kind that tests stops.
     ghost arming: { Self → Arming } = { λ _. unarmed };
 
     /// The number of sectors.

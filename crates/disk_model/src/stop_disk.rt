@@ -1,5 +1,5 @@
 // A disk that stops within a chosen write.
-ghost use Rattle.std.specs.Prelude.{◌≡◌, ◌<◌, ◌≤◌, ◌+◌, ℕ, true, Some, length, take, IsTrue, IsErr, OnOk, OnErr, slice_get};
+ghost use Rattle.std.specs.Prelude.{◌≡◌, ◌<◌, ◌≤◌, ◌+◌, ℕ, true, false, None, Some, length, take, IsTrue, IsErr, OnOk, OnErr, slice_get};
 ghost use Rattle.life_ports.specs.Faults.{HasCause, next_count};
 ghost use Rattle.disk_model.specs.Disk.{IsImage, as_read, written, flushed, IsPartlyWritten, Elapses, unarmed, after_write};
 
@@ -22,11 +22,15 @@ pub struct StopDisk<D> {
     inner: D,
     armed: Option<Stop>,
     stopped: bool,
+
+    // How many calls failed by a stop: before the last restart, and since.
+    earlier: u64,
     failures: u64,
+    ghost none_yet: { stopped ≡ false → failures ≡ 0 },
 }
 
 impl<D: Disk> StopDisk<D> {
-    ghost use Rattle.disk_model.specs.StopDisk.{inner_of, arming_of, failures_of, HasStopped, GoesOn, Passes};
+    ghost use Rattle.disk_model.specs.StopDisk.{inner_of, arming_of, failures_of, faults_of, HasStopped, GoesOn, Passes};
 
     /// A disk on which nothing is armed.
     pub fn new(inner: D) -> StopDisk<D>
@@ -38,16 +42,20 @@ impl<D: Disk> StopDisk<D> {
             inner,
             armed: None,
             stopped: false,
+            earlier: 0,
             failures: 0,
         }
     }
 
-    /// Lets a disk that has stopped go on. Nothing is armed then.
+    /// Lets a disk that has stopped go on. Nothing is armed then. Its faults stay counted.
     pub fn restart(&mut self)
         ensures inner { inner_of self.new ≡ inner_of self.old }
-        ensures arming { arming_of self.new ≡ unarmed }
-        ensures failures { failures_of self.new ≡ failures_of self.old }
+        ensures armed { (arming_of self.new).armed ≡ None }
+        ensures goes_on { GoesOn (arming_of self.new) }
+        ensures count { faults_of D.fault_count self.new ≡ faults_of D.fault_count self.old }
     {
+        self.earlier = self.earlier.saturating_add(self.failures);
+        self.failures = 0;
         self.armed = None;
         self.stopped = false;
     }
@@ -59,8 +67,9 @@ impl<D: Disk> StopDisk<D> {
         self.inner
     }
 
-    // Counts a failure, and gives the answer that tells of it.
+    // Counts that a call of a disk that has stopped failed, and gives the answer that tells of it.
     fn failure(&mut self) -> Failed
+        requires { HasStopped (arming_of self.old) }
         ensures inner { inner_of self.new ≡ inner_of self.old }
         ensures arming { arming_of self.new ≡ arming_of self.old }
         ensures failures { failures_of self.new ≡ next_count (failures_of self.old) }
@@ -86,7 +95,7 @@ impl<D: Disk> StopDisk<D> {
     // Passes the first `sectors` pieces of a write, or all where they are no more, and stops.
     fn stop_behind(&mut self, sectors: u64, at: u64, pieces: &[Sector]) -> Failed
         requires within { at + length pieces.now ≤ D.sector_count (inner_of self.old) }
-        ensures arming { arming_of self.new ≡ record
+        ensures arming { arming_of self.new ≡ record (arming_of self.old)
             { armed = Some (record { writes = 0; sectors = sectors }); stopped = true } }
         ensures failures { failures_of self.new ≡ next_count (failures_of self.old) }
         ensures passes { IsTrue D.told → Passes at (take sectors pieces.now)
@@ -109,13 +118,13 @@ impl<D: Disk> StopDisk<D> {
 }
 
 impl<D: Disk> Disk for StopDisk<D> {
-    ghost use Rattle.disk_model.specs.StopDisk.{inner_of, arming_of, failures_of, count_with, HasStopped, GoesOn, StopsNext, Passes};
+    ghost use Rattle.disk_model.specs.StopDisk.{inner_of, arming_of, failures_of, faults_of, HasStopped, GoesOn, StopsNext, Passes};
 
     ghost told = { D.told };
 
     ghost sector_count = { λ disk. D.sector_count disk.inner };
 
-    ghost fault_count = { λ disk. count_with (D.fault_count disk.inner) disk.failures };
+    ghost fault_count = { faults_of D.fault_count };
 
     ghost cells = { λ disk. D.cells disk.inner };
 
@@ -136,7 +145,8 @@ impl<D: Disk> Disk for StopDisk<D> {
     }
 
     fn faults(&self) -> u64 {
-        self.inner.faults().saturating_add(self.failures)
+        let before = self.inner.faults().saturating_add(self.earlier);
+        before.saturating_add(self.failures)
     }
 
     fn read(&mut self, at: u64, into: &mut Sector) -> Result<(), Failed>
@@ -158,8 +168,7 @@ impl<D: Disk> Disk for StopDisk<D> {
             (IsImage (D.cells (inner_of self.old))) }
         ensures sectors { D.sector_count (inner_of self.new) ≡ D.sector_count (inner_of self.old) }
         ensures arming { arming_of self.new ≡ arming_of self.old }
-        ensures cause { HasCause result (count_with (D.fault_count (inner_of self.old)) (failures_of self.old))
-            (count_with (D.fault_count (inner_of self.new)) (failures_of self.new)) }
+        ensures cause { HasCause result (faults_of D.fault_count self.old) (faults_of D.fault_count self.new) }
     {
         self.go_on()?;
         self.inner.read(at, into)
@@ -192,8 +201,7 @@ impl<D: Disk> Disk for StopDisk<D> {
             (IsImage (written at pieces.now (D.cells (inner_of self.old)))) }
         ensures sectors { D.sector_count (inner_of self.new) ≡ D.sector_count (inner_of self.old) }
         ensures arming { arming_of self.new ≡ after_write (arming_of self.old) }
-        ensures cause { HasCause result (count_with (D.fault_count (inner_of self.old)) (failures_of self.old))
-            (count_with (D.fault_count (inner_of self.new)) (failures_of self.new)) }
+        ensures cause { HasCause result (faults_of D.fault_count self.old) (faults_of D.fault_count self.new) }
     {
         self.go_on()?;
         match self.armed {
@@ -228,8 +236,7 @@ impl<D: Disk> Disk for StopDisk<D> {
             (IsImage (D.cells (inner_of self.old))) }
         ensures sectors { D.sector_count (inner_of self.new) ≡ D.sector_count (inner_of self.old) }
         ensures arming { arming_of self.new ≡ arming_of self.old }
-        ensures cause { HasCause result (count_with (D.fault_count (inner_of self.old)) (failures_of self.old))
-            (count_with (D.fault_count (inner_of self.new)) (failures_of self.new)) }
+        ensures cause { HasCause result (faults_of D.fault_count self.old) (faults_of D.fault_count self.new) }
     {
         self.go_on()?;
         self.inner.flush()
