@@ -5,3 +5,4 @@ pub mod Falls
 pub mod Lands
 pub mod Launch
 pub mod Ways
+pub mod Jobs

@@ -1,11 +1,12 @@
 // Whole jobs.
-ghost use Rattle.std.specs.Prelude.{ℕ, ◌≡◌, ◌+◌, List, [], false, IsTrue, IfErr, IfOk, OnOk};
+ghost use Rattle.std.specs.Prelude.{ℕ, ◌≡◌, ◌<◌, ◌+◌, ◌^◌, ◌↔◌, List, [], false, IsTrue, IfErr, IfOk, OnErr, OnOk};
 ghost use Rattle.life_bytes.specs.declared.sector.Sector.{Sector};
 ghost use Rattle.disk_model.specs.Disk.{IsImage};
 ghost use Rattle.log_store.specs.OnDisk.{ReplaysTo};
 ghost use Rattle.log_store.specs.declared.store.Job.TheVariants.{Force, Home, Idle, WriteBack};
-ghost use Rattle.log_store.specs.declared.store.Stage.TheVariants.{Down};
-ghost use Rattle.log_store.specs.Outcome.{IsDone, IsFault};
+ghost use Rattle.log_store.specs.declared.store.Stage.TheVariants.{Down, Free};
+ghost use Rattle.log_store.specs.Calls.{AfterWrites};
+ghost use Rattle.log_store.specs.Outcome.{CoverEndsPast, Covered, IsDone, IsFault, Rises, Stays, covers_of};
 ghost use Rattle.log_store.specs.State.{state_of};
 ghost use Rattle.log_store.specs.Steps.{Goes, IsStore, JobAsks};
 
@@ -21,6 +22,12 @@ impl<D: Disk> Store<D> {
         ensures goes { Goes D.told D.cells D.sector_count D.moment D.left_since self.old self.new }
         ensures idle { self.new.job ≡ Idle }
         ensures done { OnOk result (IsDone self.old.job (state_of self.new)) }
+        ensures rises { Rises (covers_of self.old.job) 0 (state_of self.old) (state_of self.new) }
+        ensures stays { self.old.job ≡ WriteBack → Stays (state_of self.old) (state_of self.new) }
+        ensures covered { self.old.job ≡ Home → OnOk result (Covered (state_of self.old) (state_of self.new)) }
+        ensures failed { self.old.job ≡ Home → OnErr result (Stays (state_of self.old) (state_of self.new)) }
+        ensures at_end { self.old.job ≡ Home → self.old.stage ≡ Free → CoverEndsPast (state_of self.old) → result ≡ Err StoreFault.PositionEnd }
+        ensures arming { AfterWrites (D.arming self.old.disk) (D.arming self.new.disk) }
         ensures fault { IfErr result (λ fault. IsFault fault self.old.job (state_of self.new) (D.fault_count self.old.disk) (D.fault_count self.new.disk)) }
         ensures down { (fault : ℕ) → self.old.stage ≡ Down fault → (result ≡ Err (StoreFault.Down fault)) × (self.new ≡ record self.old { job = Idle }) }
     {
@@ -43,6 +50,9 @@ impl<D: Disk> Store<D> {
         // What a stop leaves from then on has every commit: its next commit number is the answer and one.
         ensures acknowledged { IsTrue D.told → OnOk result ((image : List Sector) → IsImage (D.cells self.new.disk) image
             → ReplaysTo (state_of self.new) (D.cells self.new.disk) image) }
+        // A record has at most 135 sectors, and a force writes at most one cover in front of it.
+        ensures rises { Rises 0 0 (state_of self.old) (state_of self.new) }
+        ensures arming { AfterWrites (D.arming self.old.disk) (D.arming self.new.disk) }
         ensures fault { IfErr result (λ fault. IsFault fault Force (state_of self.new) (D.fault_count self.old.disk) (D.fault_count self.new.disk)) }
         ensures down { (fault : ℕ) → self.old.stage ≡ Down fault → (result ≡ Err (StoreFault.Down fault)) × (self.new.disk ≡ self.old.disk) }
     {
@@ -59,6 +69,8 @@ impl<D: Disk> Store<D> {
         ensures goes { Goes D.told D.cells D.sector_count D.moment D.left_since self.old self.new }
         ensures idle { self.new.job ≡ Idle }
         ensures home { OnOk result ((self.new.dirty.images ≡ []) × (self.new.unflushed ≡ false)) }
+        ensures stays { Stays (state_of self.old) (state_of self.new) }
+        ensures arming { AfterWrites (D.arming self.old.disk) (D.arming self.new.disk) }
         ensures fault { IfErr result (λ fault. IsFault fault WriteBack (state_of self.new) (D.fault_count self.old.disk) (D.fault_count self.new.disk)) }
         ensures down { (fault : ℕ) → self.old.stage ≡ Down fault → (result ≡ Err (StoreFault.Down fault)) × (self.new.disk ≡ self.old.disk) }
     {
@@ -75,7 +87,10 @@ impl<D: Disk> Store<D> {
         requires flushed { self.old.unflushed ≡ false }
         ensures goes { Goes D.told D.cells D.sector_count D.moment D.left_since self.old self.new }
         ensures idle { self.new.job ≡ Idle }
-        ensures moved { OnOk result (self.new.positions.head ≡ self.new.positions.tail + 1) }
+        ensures covered { OnOk result (Covered (state_of self.old) (state_of self.new)) }
+        ensures failed { OnErr result (Stays (state_of self.old) (state_of self.new)) }
+        ensures end { (result ≡ Err StoreFault.PositionEnd) ↔ (self.old.stage ≡ Free) × (2 ^ 63 < self.old.positions.head + 1) }
+        ensures arming { AfterWrites (D.arming self.old.disk) (D.arming self.new.disk) }
         ensures fault { IfErr result (λ fault. IsFault fault Home (state_of self.new) (D.fault_count self.old.disk) (D.fault_count self.new.disk)) }
         ensures down { (fault : ℕ) → self.old.stage ≡ Down fault → (result ≡ Err (StoreFault.Down fault)) × (self.new.disk ≡ self.old.disk) }
     {
