@@ -4,3 +4,4 @@ pub mod OverlayLaws
 pub mod Log
 pub mod Step
 pub mod Writes
+pub mod Damage
