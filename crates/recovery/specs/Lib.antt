@@ -1,0 +1,6 @@
+pub mod Homes
+pub mod Last
+pub mod High
+pub mod Follow
+pub mod Found
+pub mod Next

@@ -1,0 +1,67 @@
+// The newest image of each sector that a log writes.
+ghost use Rattle.std.specs.Prelude.{◌≡◌, [], OnOk, OnErr, option_copied};
+ghost use Rattle.log_batch.specs.Put.{put, put_all};
+ghost use Rattle.log_image.specs.Overlay.{newest};
+
+use life_bytes::Sector;
+use life_ports::NoMemory;
+use log_record::Image;
+use std::alloc::Global;
+use std::collections::BTreeMap;
+use std::marker::Model;
+
+/// One image for each of some sectors, which contracts see as the list of the images by ascending home.
+#[derive(Drop)]
+pub struct HomeImages {
+    sectors: BTreeMap<u64, Sector>,
+}
+
+impl Model for HomeImages {
+    ghost use Rattle.std.specs.Prelude.{List};
+    ghost use Rattle.log_record.specs.declared.image.Image.{Image};
+    ghost use Rattle.log_batch.specs.Put.{Rises};
+    ghost use Rattle.recovery.specs.Homes.{images_in};
+
+    ghost Value = { List Image };
+
+    ghost view = { λ h. images_in h.sectors.entries };
+
+    ghost invariant = { λ h. Rises (λ i. i.home) 0 (images_in h.sectors.entries) };
+}
+
+impl HomeImages {
+    /// No images, which take no memory.
+    pub fn new(alloc: Global) -> HomeImages
+        ensures { result ≡ [] }
+    {
+        HomeImages {
+            sectors: BTreeMap::new(alloc),
+        }
+    }
+
+    /// The image of a sector, if there is one.
+    pub fn get(&self, home: u64) -> Option<&Sector>
+        ensures { option_copied result ≡ newest home self.now }
+    {
+        self.sectors.get(&home)
+    }
+
+    /// Puts an image in the place of its sector's older one, where there is one.
+    pub fn put(&mut self, image: &Image) -> Result<(), NoMemory>
+        ensures ok { OnOk result (self.new ≡ put image.now self.old) }
+        ensures err { OnErr result (self.new ≡ self.old) }
+    {
+        self.sectors.insert(image.home, image.sector)?;
+        Ok(())
+    }
+
+    /// Puts several images in the places of their sectors' older ones. Where memory lacks, some of them are put.
+    pub(crate) fn put_all(&mut self, images: &[Image]) -> Result<(), NoMemory>
+        ensures { OnOk result (self.new ≡ put_all images.now self.old) }
+    {
+        for image in images {
+            self.put(image)?;
+        }
+        Ok(())
+    }
+}
