@@ -1,6 +1,6 @@
 -- Chains of whole records, and what follows them.
 use Rattle.std.proofs.Common.{◌≡◌, ℕ, ◌+◌, ◌-◌, ◌<◌, ◌≤◌, ◌^◌, List, [], ◌∷◌, ◌⊎◌, ◌++◌, length, refl, sym, ap, subst, inl, inr, ◌∙◌, arith}
-use Rattle.std.specs.List.{All, flat_map}
+use Rattle.std.specs.List.{All}
 use Rattle.std.proofs.lemmas.Bool.{cases_lt}
 use Rattle.std.proofs.lemmas.Grind.{flat_map-append}
 use Rattle.std.proofs.lemmas.List.{append-nil}
@@ -17,8 +17,7 @@ use Rattle.log_batch.specs.Put.{put_all}
 use Rattle.log_batch.specs.PutLaws.{All-put}
 use Rattle.log_batch.specs.NewestLaws.{put_all-append, put_all_is_newest}
 use Rattle.recovery.specs.Follow.{IsFollowed, IsNext, NoLogTo, NoneNext}
-use Rattle.recovery.specs.Found.{HasGroupImages, Says}
-use Rattle.recovery.specs.declared.found.Found.{Found}
+use Rattle.recovery.specs.Found.{Says}
 use Rattle.recovery.proofs.Places.{Stamped, some_sector}
 
 -- the law that at most one record is whole at a position

@@ -1,3 +1,5 @@
 pub mod Entries
 pub mod Places
 pub mod Chains
+pub mod Breaks
+pub mod Read

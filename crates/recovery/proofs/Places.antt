@@ -1,14 +1,14 @@
 -- Whole records by the places at which they begin.
-use Rattle.std.proofs.Common.{◌≡◌, ℕ, ◌+◌, ◌-◌, ◌*◌, ◌/◌, ◌%◌, ◌<◌, ◌≤◌, List, length, get_or, refl, sym, ap, subst, inl, inr, ◌∙◌, add-zero, arith}
+use Rattle.std.proofs.Common.{◌≡◌, ℕ, ◌+◌, ◌%◌, ◌<◌, ◌≤◌, List, length, get_or, refl, sym, ap, subst, inl, inr, ◌∙◌, add-zero, arith}
 use Rattle.std.specs.Prelude.{Option, None, Some, Result, Ok, Err, IfOk, MatchOption}
-use Rattle.std.proofs.lemmas.Bool.{cases_eq, cases_lt}
+use Rattle.std.proofs.lemmas.Bool.{cases_eq}
 use Rattle.life_bytes.specs.Fields.{field}
 use Rattle.life_bytes.specs.declared.sector.Sector.{Sector}
 use Rattle.log_record.specs.declared.record.LogRecord.{LogRecord}
 use Rattle.log_record.specs.Spelling.{sector_count}
 use Rattle.log_record.specs.Whole.{IsWholeAt, NoneWholeAt, at_place}
 use Rattle.log_image.specs.Log.{HasNoLast, IsLast}
-use Rattle.recovery.specs.Last.{BeginsAt, IsFrom, IsGreatest, IsSeen, NoneFrom}
+use Rattle.recovery.specs.Last.{BeginsAt, IsFrom, IsSeen, NoneFrom}
 
 -- the law of what a whole record's sectors begin with
 abbrev pub Stamped : Type 0

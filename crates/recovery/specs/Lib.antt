@@ -4,3 +4,5 @@ pub mod High
 pub mod Follow
 pub mod Found
 pub mod Next
+pub mod Broken
+pub mod Scan

@@ -1,6 +1,5 @@
-use Rattle.std.proofs.Common.{◌≡◌, ◌≤◌, ◌<◌, ◌^◌, ℕ, List, sym, ap, subst, ◌∙◌, arith}
+use Rattle.std.proofs.Common.{◌≡◌, ◌≤◌, List, sym, ap, subst, ◌∙◌, arith}
 use Rattle.log_record.specs.declared.image.Image.{Image}
-use Rattle.log_image.specs.Log.{end_of}
 use Rattle.log_batch.specs.Put.{put_all}
 use Rattle.recovery.specs.Follow.{IsFollowed}
 use Rattle.recovery.proofs.Chains.{none_at_tail, zero_at_tail, followed_first, followed_more, followed_none, followed_all, followed_homes}

@@ -1,4 +1,4 @@
-use Rattle.std.proofs.Common.{◌<◌, ◌-◌}
+use Rattle.std.proofs.Common.{◌-◌}
 use Rattle.recovery.specs.Follow.{IsFollowed}
 use Rattle.recovery.proofs.chain.follow.Given as goal
 

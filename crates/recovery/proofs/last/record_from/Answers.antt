@@ -1,5 +1,4 @@
-use Rattle.std.proofs.Common.{◌≡◌, get_or, [], ap, ◌%◌, length, ℕ, arith, sym, ◌∙◌}
-use Rattle.life_bytes.specs.Fields.{field}
+use Rattle.std.proofs.Common.{◌≡◌, [], ap, ◌%◌, length, ℕ, arith, sym, ◌∙◌}
 use Rattle.life_bytes.specs.declared.sector.Sector.{Sector}
 use Rattle.recovery.proofs.Places.{first_sector, from_read}
 use Rattle.recovery.proofs.last.record_from.Goals as goal

@@ -1,4 +1,4 @@
-use Rattle.std.proofs.Common.{◌≡◌, ap, sym, subst, ◌∙◌, List, ℕ, arith}
+use Rattle.std.proofs.Common.{◌≡◌, ap, sym, subst, ◌∙◌, List, arith}
 use Rattle.log_record.specs.declared.image.Image.{Image}
 use Rattle.log_batch.specs.Put.{put, Rises}
 use Rattle.log_batch.specs.PutLaws.{Rises-put}
