@@ -3,3 +3,5 @@ pub mod Places
 pub mod Chains
 pub mod Breaks
 pub mod Read
+pub mod Puts
+pub mod Recovering

@@ -6,3 +6,5 @@ pub mod Found
 pub mod Next
 pub mod Broken
 pub mod Scan
+pub mod Put
+pub mod Replay

@@ -1,10 +1,16 @@
 // The newest image of each sector that a log writes.
-ghost use Rattle.std.specs.Prelude.{◌≡◌, [], OnOk, OnErr, option_copied};
+ghost use Rattle.std.specs.Prelude.{◌≡◌, ◌<◌, List, [], IsTrue, OnOk, OnErr, option_copied};
+ghost use Rattle.std.specs.List.{All};
+ghost use Rattle.life_bytes.specs.declared.sector.Sector.{Sector};
+ghost use Rattle.life_ports.specs.Faults.{HasCause};
+ghost use Rattle.disk_model.specs.Disk.{Elapses, HasOneImage, IsImage, as_read};
 ghost use Rattle.log_batch.specs.Put.{put, put_all};
-ghost use Rattle.log_image.specs.Overlay.{newest};
+ghost use Rattle.log_image.specs.Overlay.{newest, overlaid};
+ghost use Rattle.recovery.specs.Put.{IsAfterWrites, IsPartlyPut};
 
+use disk_model::Disk;
 use life_bytes::Sector;
-use life_ports::NoMemory;
+use life_ports::{Failed, NoMemory};
 use log_record::Image;
 use std::alloc::Global;
 use std::collections::BTreeMap;
@@ -61,6 +67,24 @@ impl HomeImages {
     {
         for image in images {
             self.put(image)?;
+        }
+        Ok(())
+    }
+
+    /// Writes each image to its sector of the disk, by ascending home, one write each. Ends with the first write that fails.
+    pub(crate) fn write_home<D: Disk>(&self, disk: &mut D) -> Result<(), Failed>
+        requires { All (λ image. image.home < D.sector_count disk.old) self.now }
+        ensures reads { IsTrue D.told → OnOk result (as_read (D.cells disk.new) ≡ overlaid (as_read (D.cells disk.old)) self.now) }
+        ensures left { IsTrue D.told → HasOneImage (D.cells disk.old) → (image : List Sector) → IsImage (D.cells disk.new) image
+            → IsPartlyPut self.now (as_read (D.cells disk.old)) image }
+        ensures time { IsTrue D.told → HasOneImage (D.cells disk.old) → Elapses (D.moment disk.old) (D.moment disk.new)
+            (D.left_since disk.old) (D.left_since disk.new) (IsPartlyPut self.now (as_read (D.cells disk.old))) }
+        ensures sectors { D.sector_count disk.new ≡ D.sector_count disk.old }
+        ensures arming { IsAfterWrites (D.arming disk.old) (D.arming disk.new) }
+        ensures cause { HasCause result (D.fault_count disk.old) (D.fault_count disk.new) }
+    {
+        for (home, sector) in &self.sectors {
+            disk.write(*home, &[*sector])?;
         }
         Ok(())
     }

@@ -1,4 +1,4 @@
-//! Recovery: what the log of an image says, and the sectors that it leaves.
+//! Recovery: what the log of an image says, and the log brought home.
 #![tactic(auto)]
 
 mod chain;
@@ -8,9 +8,13 @@ mod high;
 mod homes;
 mod last;
 mod reading;
+mod replaying;
 mod ring;
+mod start;
 
 pub use fault::ScanFault;
 pub use found::Found;
 pub use homes::HomeImages;
 pub use reading::scan;
+pub use replaying::replay;
+pub use start::{ReplayFault, Start};

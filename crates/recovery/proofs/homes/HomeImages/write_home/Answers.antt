@@ -1,0 +1,107 @@
+use Rattle.std.proofs.Common.{◌≡◌, ◌∷◌, [], ◌<◌, ◌+◌, ℕ, List, Some, set, sym, ap, subst, ◌∙◌, arith, rules}
+use Rattle.std.specs.List.{All}
+use Rattle.std.specs.Map.Iter.{deref_pair}
+use Rattle.std.proofs.lemmas.Map.Iter.{rest_more, rest_all}
+use Rattle.life_bytes.specs.declared.sector.Sector.{Sector}
+use Rattle.disk_model.specs.Disk.{Cell, IsImage, as_read, written}
+use Rattle.disk_model.specs.DiskLaws.{IsImage-partly_written}
+use Rattle.log_record.specs.declared.image.Image.{Image}
+use Rattle.log_image.specs.Overlay.{overlaid}
+use Rattle.recovery.specs.Homes.{images_in}
+use Rattle.recovery.specs.Put.{IsPartlyPut}
+use Rattle.recovery.proofs.Puts.{AreLeft, as_read_put, elapses_more, elapses_none, left_all, no_writes, one_write_more, overlaid-cons, overlaid-nil, put_first, put_more}
+use Rattle.recovery.proofs.homes.HomeImages.write_home.Goals as goal
+
+pub loop-home-init : goal.loop-home-init
+loop-home-init g c =
+    let d = g.D.Disk in
+    let disk = c.args.disk.now in
+    let entries = c.self.inside.sectors.entries in
+    let all : c.into_iter-home-iterator.result ≡ entries = c.into_iter-home-iterator.ensures.into_iter_gives.0 in
+    let homes = subst (λ (l : List Image). All (λ (i : Image). i.home < d.sector_count disk) l) (sym c.self.view_is) c.requires in
+    let left = left_all 0 (d.sector_count disk) entries c.self.invariant homes in
+    record {
+      rest = subst (λ (l : List (ℕ × Sector)). AreLeft c.args.self.now (d.sector_count disk) l) (sym all)
+          (subst (λ (l : List Image). AreLeft l (d.sector_count disk) entries) c.self.view_is left);
+      sectors = search rules;
+      count = omega arith;
+      armed = no_writes (d.arming disk);
+      reads = λ told. ap (λ (l : List (ℕ × Sector)). overlaid (as_read (d.cells disk)) (images_in l)) all ∙ ap (overlaid (as_read (d.cells disk))) c.self.view_is;
+      left = λ told one. put_first c.args.self.now (d.cells disk) one;
+      time = λ told one. elapses_none (d.moment disk) (d.left_since disk) (IsPartlyPut c.args.self.now (as_read (d.cells disk)));
+    }
+
+pub loop-home-preserved : goal.loop-home-preserved
+loop-home-preserved g c =
+    let d = g.D.Disk in
+    let inv = c.loop-home.invariant in
+    let base = as_read (d.cells c.args.disk.now) in
+    let home = c.in-Some.home.now in
+    let sector = c.in-Some.sector.now in
+    let cells = d.cells c.loop-home.disk in
+    let split : c.loop-home.home-iterator ≡ (home, sector) ∷ c.next.new.self =
+    rest_more deref_pair c.loop-home.home-iterator c.next.new.self c.next.result (c.in-Some.home, c.in-Some.sector) c.in-Some.is c.next.ensures.steps in
+    let left = subst (λ (l : List (ℕ × Sector)). AreLeft c.args.self.now (d.sector_count c.loop-home.disk) l) split inv.rest in
+    record {
+      rest = subst (λ (n : ℕ). AreLeft c.args.self.now n c.next.new.self) (sym c.write.ensures.sectors) left.2;
+      sectors = c.write.ensures.sectors ∙ inv.sectors;
+      count = omega (arith, inv.count, c.write.ensures.cause.never_falls);
+      armed = one_write_more (d.arming c.args.disk.now) (d.arming c.loop-home.disk) (d.arming c.write.new.self) inv.armed c.write.ensures.arming;
+      reads = λ told.
+          ap (λ (l : List Sector). overlaid l (images_in c.next.new.self)) (ap as_read (c.in_ok-write.ensures.written told) ∙ as_read_put home sector cells)
+          ∙ sym (overlaid-cons (as_read cells) (record { home = home; sector = sector }) (images_in c.next.new.self))
+          ∙ ap (λ (l : List (ℕ × Sector)). overlaid (as_read cells) (images_in l)) (sym split)
+          ∙ inv.reads told;
+      left = λ told one image is.
+          put_more c.args.self.now base cells home sector (inv.left told one) left.0 image
+          (subst (λ (cs : List Cell). IsImage cs image) (c.in_ok-write.ensures.written told) is);
+      time = λ told one.
+          elapses_more (d.moment c.args.disk.now) (d.moment c.loop-home.disk) (d.moment c.write.new.self)
+          (d.left_since c.args.disk.now) (d.left_since c.loop-home.disk) (d.left_since c.write.new.self)
+          (IsPartlyPut c.args.self.now base) (IsImage (written home (sector ∷ []) cells))
+          (inv.time told one) (c.write.ensures.time told) (put_more c.args.self.now base cells home sector (inv.left told one) left.0);
+    }
+
+pub returns-in_err-write-clause-left : goal.returns-in_err-write-clause-left
+returns-in_err-write-clause-left g c told one image is =
+    let d = g.D.Disk in
+    let inv = c.loop-home.invariant in
+    let base = as_read (d.cells c.args.disk.now) in
+    let home = c.in-Some.home.now in
+    let sector = c.in-Some.sector.now in
+    let cells = d.cells c.loop-home.disk in
+    let split : c.loop-home.home-iterator ≡ (home, sector) ∷ c.next.new.self =
+    rest_more deref_pair c.loop-home.home-iterator c.next.new.self c.next.result (c.in-Some.home, c.in-Some.sector) c.in-Some.is c.next.ensures.steps in
+    let left = subst (λ (l : List (ℕ × Sector)). AreLeft c.args.self.now (d.sector_count c.loop-home.disk) l) split inv.rest in
+    put_more c.args.self.now base cells home sector (inv.left told one) left.0 image
+    (IsImage-partly_written home (sector ∷ []) cells (d.cells c.write.new.self) image (c.in_err-write.ensures.failed told) is)
+
+pub returns-in_err-write-clause-time : goal.returns-in_err-write-clause-time
+returns-in_err-write-clause-time g c told one =
+    let d = g.D.Disk in
+    let inv = c.loop-home.invariant in
+    let base = as_read (d.cells c.args.disk.now) in
+    let home = c.in-Some.home.now in
+    let sector = c.in-Some.sector.now in
+    let cells = d.cells c.loop-home.disk in
+    let split : c.loop-home.home-iterator ≡ (home, sector) ∷ c.next.new.self =
+    rest_more deref_pair c.loop-home.home-iterator c.next.new.self c.next.result (c.in-Some.home, c.in-Some.sector) c.in-Some.is c.next.ensures.steps in
+    let left = subst (λ (l : List (ℕ × Sector)). AreLeft c.args.self.now (d.sector_count c.loop-home.disk) l) split inv.rest in
+    elapses_more (d.moment c.args.disk.now) (d.moment c.loop-home.disk) (d.moment c.write.new.self)
+    (d.left_since c.args.disk.now) (d.left_since c.loop-home.disk) (d.left_since c.write.new.self)
+    (IsPartlyPut c.args.self.now base) (IsImage (written home (sector ∷ []) cells))
+    (inv.time told one) (c.write.ensures.time told) (put_more c.args.self.now base cells home sector (inv.left told one) left.0)
+
+pub returns-in_err-write-clause-arming : goal.returns-in_err-write-clause-arming
+returns-in_err-write-clause-arming g c =
+    let d = g.D.Disk in
+    one_write_more (d.arming c.args.disk.now) (d.arming c.loop-home.disk) (d.arming c.write.new.self) c.loop-home.invariant.armed c.write.ensures.arming
+
+pub returns-clause-reads : goal.returns-clause-reads
+returns-clause-reads g c told =
+    let d = g.D.Disk in
+    let none : c.loop-home.home-iterator ≡ [] =
+    rest_all deref_pair c.loop-home.home-iterator c.next.new.self c.next.result c.in-None.is c.next.ensures.steps in
+    sym (overlaid-nil (as_read (d.cells c.loop-home.disk)))
+    ∙ ap (λ (l : List (ℕ × Sector)). overlaid (as_read (d.cells c.loop-home.disk)) (images_in l)) (sym none)
+    ∙ c.loop-home.invariant.reads told

@@ -1,0 +1,140 @@
+use Rattle.std.proofs.Common.{◌≡◌, ◌+◌, List, sym, ap, subst, ◌∙◌}
+use Rattle.life_bytes.specs.declared.sector.Sector.{Sector}
+use Rattle.disk_model.specs.Disk.{Arming, IsImage, as_read}
+use Rattle.disk_model.specs.DiskLaws.{IsImage-as_read}
+use Rattle.recovery.specs.Put.{IsPartlyPut}
+use Rattle.recovery.specs.Replay.{IsEither, Recovers, groups_found}
+use Rattle.recovery.specs.Scan.{anchor_of}
+use Rattle.recovery.proofs.Puts.{elapses_more, elapses_none, more_writes, put_first}
+use Rattle.recovery.proofs.Recovering.{Laws, Home, begins_anew, recovers_either, recovers_partly}
+use Rattle.recovery.proofs.replaying.replay.Goals as goal
+
+pub returns-in_default-clause-left : goal.returns-in_default-clause-left
+returns-in_default-clause-left g c told image is =
+    let laws : Laws = record { log = c.home_writes.ensures.log; replays = c.home_writes.ensures.replayed; bounds = c.logs.ensures.bounds; empty = c.logs.ensures.empty } in
+    let cells = g.D.Disk.cells c.args.disk.now in
+    recovers_partly laws (as_read cells) (anchor_of c.args.g.now) c.args.g.now.ring c.args.found.now (c.requires.found told) c.requires.homes image
+    (put_first c.args.found.now.images cells (c.requires.one told) image is)
+
+pub returns-in_err-settle_home-clause-left : goal.returns-in_err-settle_home-clause-left
+returns-in_err-settle_home-clause-left g c told image is =
+    let laws : Laws = record { log = c.home_writes.ensures.log; replays = c.home_writes.ensures.replayed; bounds = c.logs.ensures.bounds; empty = c.logs.ensures.empty } in
+    recovers_partly laws (as_read (g.D.Disk.cells c.args.disk.now)) (anchor_of c.args.g.now) c.args.g.now.ring c.args.found.now (c.requires.found told)
+    c.requires.homes image (c.settle_home.ensures.left told (c.requires.one told) image is)
+
+pub returns-in_err-settle_home-clause-time : goal.returns-in_err-settle_home-clause-time
+returns-in_err-settle_home-clause-time g c told =
+    let d = g.D.Disk in
+    let old = c.args.disk.now in
+    let laws : Laws = record { log = c.home_writes.ensures.log; replays = c.home_writes.ensures.replayed; bounds = c.logs.ensures.bounds; empty = c.logs.ensures.empty } in
+    let P : List Sector → Type 0 = Recovers (anchor_of c.args.g.now) c.args.g.now.ring (groups_found (anchor_of c.args.g.now) (as_read (d.cells old)) c.args.found.now) c.args.found.now.next_commit in
+    elapses_more (d.moment old) (d.moment old) (d.moment c.settle_home.new.disk) (d.left_since old) (d.left_since old) (d.left_since c.settle_home.new.disk)
+    P (IsPartlyPut c.args.found.now.images (as_read (d.cells old))) (elapses_none (d.moment old) (d.left_since old) P)
+    (c.settle_home.ensures.time told (c.requires.one told))
+    (recovers_partly laws (as_read (d.cells old)) (anchor_of c.args.g.now) c.args.g.now.ring c.args.found.now (c.requires.found told) c.requires.homes)
+
+pub returns-in_err-settle_sector-clause-left : goal.returns-in_err-settle_sector-clause-left
+returns-in_err-settle_sector-clause-left g c told image is =
+    let d = g.D.Disk in
+    let old = c.args.disk.now in
+    let cells = d.cells c.settle_home.new.disk in
+    let laws : Laws = record { log = c.home_writes.ensures.log; replays = c.home_writes.ensures.replayed; bounds = c.logs.ensures.bounds; empty = c.logs.ensures.empty } in
+    let home : Home (as_read (d.cells old)) (anchor_of c.args.g.now) c.args.g.now.ring c.args.found.now (as_read cells) = record {
+      is = c.requires.found told;
+      homes = c.requires.homes;
+      partly = c.settle_home.ensures.left told (c.requires.one told) (as_read cells) (IsImage-as_read cells);
+      reads = c.in_ok-settle_home.ensures.reads told;
+    } in
+    recovers_either laws (as_read (d.cells old)) (anchor_of c.args.g.now) c.args.g.now.ring c.args.found.now (as_read cells) c.in-Some.start
+    c.anchor_of-anchor.result c.anchor_at.result home c.in-Some.ensures.0 c.in-Some.ensures.1 c.anchor_of-anchor.ensures.at c.anchor_at.ensures image
+    (c.settle_sector.ensures.left told (c.in_ok-settle_home.ensures.one told) image is)
+
+pub returns-in_err-settle_sector-clause-time : goal.returns-in_err-settle_sector-clause-time
+returns-in_err-settle_sector-clause-time g c told =
+    let d = g.D.Disk in
+    let old = c.args.disk.now in
+    let cells = d.cells c.settle_home.new.disk in
+    let laws : Laws = record { log = c.home_writes.ensures.log; replays = c.home_writes.ensures.replayed; bounds = c.logs.ensures.bounds; empty = c.logs.ensures.empty } in
+    let home : Home (as_read (d.cells old)) (anchor_of c.args.g.now) c.args.g.now.ring c.args.found.now (as_read cells) = record {
+      is = c.requires.found told;
+      homes = c.requires.homes;
+      partly = c.settle_home.ensures.left told (c.requires.one told) (as_read cells) (IsImage-as_read cells);
+      reads = c.in_ok-settle_home.ensures.reads told;
+    } in
+    let P : List Sector → Type 0 = Recovers (anchor_of c.args.g.now) c.args.g.now.ring (groups_found (anchor_of c.args.g.now) (as_read (d.cells old)) c.args.found.now) c.args.found.now.next_commit in
+    let first = elapses_more (d.moment old) (d.moment old) (d.moment c.settle_home.new.disk) (d.left_since old) (d.left_since old) (d.left_since c.settle_home.new.disk)
+    P (IsPartlyPut c.args.found.now.images (as_read (d.cells old))) (elapses_none (d.moment old) (d.left_since old) P)
+    (c.settle_home.ensures.time told (c.requires.one told))
+    (recovers_partly laws (as_read (d.cells old)) (anchor_of c.args.g.now) c.args.g.now.ring c.args.found.now (c.requires.found told) c.requires.homes) in
+    elapses_more (d.moment old) (d.moment c.settle_home.new.disk) (d.moment c.settle_sector.new.disk)
+    (d.left_since old) (d.left_since c.settle_home.new.disk) (d.left_since c.settle_sector.new.disk)
+    P (IsEither (as_read cells) c.anchor_of-anchor.result c.anchor_at.result) first (c.settle_sector.ensures.time told (c.in_ok-settle_home.ensures.one told))
+    (recovers_either laws (as_read (d.cells old)) (anchor_of c.args.g.now) c.args.g.now.ring c.args.found.now (as_read cells) c.in-Some.start
+    c.anchor_of-anchor.result c.anchor_at.result home c.in-Some.ensures.0 c.in-Some.ensures.1 c.anchor_of-anchor.ensures.at c.anchor_at.ensures)
+
+pub returns-in_err-settle_sector-clause-arming : goal.returns-in_err-settle_sector-clause-arming
+returns-in_err-settle_sector-clause-arming g c =
+    let d = g.D.Disk in
+    let after = c.settle_sector.ensures.arming in
+    more_writes (d.arming c.args.disk.now) (d.arming c.settle_home.new.disk) (d.arming c.settle_sector.new.disk) after.0 c.settle_home.ensures.arming after.1
+
+pub returns-clause-anew : goal.returns-clause-anew
+returns-clause-anew g c told =
+    let d = g.D.Disk in
+    let old = c.args.disk.now in
+    let cells = d.cells c.settle_home.new.disk in
+    let laws : Laws = record { log = c.home_writes.ensures.log; replays = c.home_writes.ensures.replayed; bounds = c.logs.ensures.bounds; empty = c.logs.ensures.empty } in
+    let home : Home (as_read (d.cells old)) (anchor_of c.args.g.now) c.args.g.now.ring c.args.found.now (as_read cells) = record {
+      is = c.requires.found told;
+      homes = c.requires.homes;
+      partly = c.settle_home.ensures.left told (c.requires.one told) (as_read cells) (IsImage-as_read cells);
+      reads = c.in_ok-settle_home.ensures.reads told;
+    } in
+    begins_anew laws (as_read (d.cells old)) (anchor_of c.args.g.now) c.args.g.now.ring c.args.found.now (as_read cells) c.in-Some.start
+    c.anchor_of-anchor.result c.anchor_at.result (d.cells c.settle_sector.new.disk) home c.in-Some.ensures.0 c.in-Some.ensures.1
+    c.anchor_of-anchor.ensures.at c.anchor_at.ensures (c.in_ok-settle_sector.ensures.one told) (c.in_ok-settle_sector.ensures.reads told)
+
+pub returns-clause-left : goal.returns-clause-left
+returns-clause-left g c told image is =
+    let d = g.D.Disk in
+    let old = c.args.disk.now in
+    let cells = d.cells c.settle_home.new.disk in
+    let laws : Laws = record { log = c.home_writes.ensures.log; replays = c.home_writes.ensures.replayed; bounds = c.logs.ensures.bounds; empty = c.logs.ensures.empty } in
+    let home : Home (as_read (d.cells old)) (anchor_of c.args.g.now) c.args.g.now.ring c.args.found.now (as_read cells) = record {
+      is = c.requires.found told;
+      homes = c.requires.homes;
+      partly = c.settle_home.ensures.left told (c.requires.one told) (as_read cells) (IsImage-as_read cells);
+      reads = c.in_ok-settle_home.ensures.reads told;
+    } in
+    recovers_either laws (as_read (d.cells old)) (anchor_of c.args.g.now) c.args.g.now.ring c.args.found.now (as_read cells) c.in-Some.start
+    c.anchor_of-anchor.result c.anchor_at.result home c.in-Some.ensures.0 c.in-Some.ensures.1 c.anchor_of-anchor.ensures.at c.anchor_at.ensures image
+    (c.settle_sector.ensures.left told (c.in_ok-settle_home.ensures.one told) image is)
+
+pub returns-clause-time : goal.returns-clause-time
+returns-clause-time g c told =
+    let d = g.D.Disk in
+    let old = c.args.disk.now in
+    let cells = d.cells c.settle_home.new.disk in
+    let laws : Laws = record { log = c.home_writes.ensures.log; replays = c.home_writes.ensures.replayed; bounds = c.logs.ensures.bounds; empty = c.logs.ensures.empty } in
+    let home : Home (as_read (d.cells old)) (anchor_of c.args.g.now) c.args.g.now.ring c.args.found.now (as_read cells) = record {
+      is = c.requires.found told;
+      homes = c.requires.homes;
+      partly = c.settle_home.ensures.left told (c.requires.one told) (as_read cells) (IsImage-as_read cells);
+      reads = c.in_ok-settle_home.ensures.reads told;
+    } in
+    let P : List Sector → Type 0 = Recovers (anchor_of c.args.g.now) c.args.g.now.ring (groups_found (anchor_of c.args.g.now) (as_read (d.cells old)) c.args.found.now) c.args.found.now.next_commit in
+    let first = elapses_more (d.moment old) (d.moment old) (d.moment c.settle_home.new.disk) (d.left_since old) (d.left_since old) (d.left_since c.settle_home.new.disk)
+    P (IsPartlyPut c.args.found.now.images (as_read (d.cells old))) (elapses_none (d.moment old) (d.left_since old) P)
+    (c.settle_home.ensures.time told (c.requires.one told))
+    (recovers_partly laws (as_read (d.cells old)) (anchor_of c.args.g.now) c.args.g.now.ring c.args.found.now (c.requires.found told) c.requires.homes) in
+    elapses_more (d.moment old) (d.moment c.settle_home.new.disk) (d.moment c.settle_sector.new.disk)
+    (d.left_since old) (d.left_since c.settle_home.new.disk) (d.left_since c.settle_sector.new.disk)
+    P (IsEither (as_read cells) c.anchor_of-anchor.result c.anchor_at.result) first (c.settle_sector.ensures.time told (c.in_ok-settle_home.ensures.one told))
+    (recovers_either laws (as_read (d.cells old)) (anchor_of c.args.g.now) c.args.g.now.ring c.args.found.now (as_read cells) c.in-Some.start
+    c.anchor_of-anchor.result c.anchor_at.result home c.in-Some.ensures.0 c.in-Some.ensures.1 c.anchor_of-anchor.ensures.at c.anchor_at.ensures)
+
+pub returns-clause-arming : goal.returns-clause-arming
+returns-clause-arming g c =
+    let d = g.D.Disk in
+    let after = c.settle_sector.ensures.arming in
+    more_writes (d.arming c.args.disk.now) (d.arming c.settle_home.new.disk) (d.arming c.settle_sector.new.disk) after.0 c.settle_home.ensures.arming after.1

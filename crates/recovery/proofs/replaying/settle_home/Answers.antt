@@ -1,0 +1,12 @@
+use Rattle.std.proofs.Common.{ap, sym, subst, ◌∙◌}
+use Rattle.disk_model.specs.Disk.{HasOneImage, as_read}
+use Rattle.disk_model.specs.DiskLaws.{HasOneImage-flushed, as_read-flushed}
+use Rattle.recovery.proofs.replaying.settle_home.Goals as goal
+
+pub returns-clause-reads : goal.returns-clause-reads
+returns-clause-reads g c told =
+    ap as_read (c.in-Ok-flush.ensures.flushed told) ∙ as_read-flushed (g.D.Disk.cells c.write_home.new.disk) ∙ c.in-Ok.ensures.reads told
+
+pub returns-clause-one : goal.returns-clause-one
+returns-clause-one g c told =
+    subst HasOneImage (sym (c.in-Ok-flush.ensures.flushed told)) (HasOneImage-flushed (g.D.Disk.cells c.write_home.new.disk))

@@ -1,0 +1,117 @@
+// A log brought home.
+ghost use Rattle.std.specs.Prelude.{ℕ, ◌≡◌, ◌≤◌, ◌<◌, ◌+◌, ◌↔◌, List, IsTrue, IsErrOf, IfOk, OnOk, slice_set};
+ghost use Rattle.std.specs.List.{All};
+ghost use Rattle.life_bytes.specs.declared.sector.Sector.{Sector};
+ghost use Rattle.life_ports.specs.Faults.{NeverFalls, Rose};
+ghost use Rattle.geometry.specs.Shape.{IsGeometry};
+ghost use Rattle.disk_model.specs.Disk.{Elapses, HasOneImage, IsImage, as_read};
+ghost use Rattle.log_image.specs.Anchor.{anchor_sector};
+ghost use Rattle.log_image.specs.Overlay.{overlaid};
+ghost use Rattle.recovery.specs.Found.{HasGroupImages, IsFound};
+ghost use Rattle.recovery.specs.Put.{IsAfterWrites, IsPartlyPut};
+ghost use Rattle.recovery.specs.Replay.{AreUsedUp, BeginsAnew, HasDeviceCause, IsBehind, IsEither, Recovers, groups_found};
+ghost use Rattle.recovery.specs.Scan.{anchor_of};
+
+use crate::found::Found;
+use crate::homes::HomeImages;
+use crate::reading::anchor_of;
+use crate::start::{ReplayFault, Start, start_behind};
+use disk_model::Disk;
+use geometry::Geometry;
+use life_bytes::Sector;
+use log_image::{Anchor, home_writes, logs, write_anchor};
+
+/// Writes each image home, and flushes.
+fn settle_home<D: Disk>(disk: &mut D, images: &HomeImages) -> Result<(), ReplayFault>
+    requires { All (λ image. image.home < D.sector_count disk.old) images.now }
+    ensures reads { IsTrue D.told → OnOk result (as_read (D.cells disk.new) ≡ overlaid (as_read (D.cells disk.old)) images.now) }
+    ensures one { IsTrue D.told → OnOk result (HasOneImage (D.cells disk.new)) }
+    ensures left { IsTrue D.told → HasOneImage (D.cells disk.old) → (image : List Sector) → IsImage (D.cells disk.new) image
+        → IsPartlyPut images.now (as_read (D.cells disk.old)) image }
+    ensures time { IsTrue D.told → HasOneImage (D.cells disk.old) → Elapses (D.moment disk.old) (D.moment disk.new)
+        (D.left_since disk.old) (D.left_since disk.new) (IsPartlyPut images.now (as_read (D.cells disk.old))) }
+    ensures sectors { D.sector_count disk.new ≡ D.sector_count disk.old }
+    ensures arming { IsAfterWrites (D.arming disk.old) (D.arming disk.new) }
+    ensures cause { HasDeviceCause result (D.fault_count disk.old) (D.fault_count disk.new) }
+{
+    let Ok(()) = images.write_home(disk) else {
+        return Err(ReplayFault::WriteFault);
+    };
+    let Ok(()) = disk.flush() else {
+        return Err(ReplayFault::FlushFault);
+    };
+    Ok(())
+}
+
+/// Writes one sector, and flushes.
+fn settle_sector<D: Disk>(disk: &mut D, at: u64, sector: &Sector) -> Result<(), ReplayFault>
+    requires { at < D.sector_count disk.old }
+    ensures reads { IsTrue D.told → OnOk result (as_read (D.cells disk.new) ≡ slice_set (as_read (D.cells disk.old)) at sector.now) }
+    ensures one { IsTrue D.told → OnOk result (HasOneImage (D.cells disk.new)) }
+    ensures left { IsTrue D.told → HasOneImage (D.cells disk.old) → (image : List Sector) → IsImage (D.cells disk.new) image
+        → IsEither (as_read (D.cells disk.old)) at sector.now image }
+    ensures time { IsTrue D.told → HasOneImage (D.cells disk.old) → Elapses (D.moment disk.old) (D.moment disk.new)
+        (D.left_since disk.old) (D.left_since disk.new) (IsEither (as_read (D.cells disk.old)) at sector.now) }
+    ensures sectors { D.sector_count disk.new ≡ D.sector_count disk.old }
+    ensures arming { IsAfterWrites (D.arming disk.old) (D.arming disk.new) }
+    ensures cause { HasDeviceCause result (D.fault_count disk.old) (D.fault_count disk.new) }
+{
+    let Ok(()) = disk.write(at, &[*sector]) else {
+        return Err(ReplayFault::WriteFault);
+    };
+    let Ok(()) = disk.flush() else {
+        return Err(ReplayFault::FlushFault);
+    };
+    Ok(())
+}
+
+/// The sector of the anchor with which a log begins.
+fn anchor_at(start: &Start) -> Sector
+    ensures { result ≡ anchor_sector start.now.position start.now.next_commit }
+{
+    let mut sector = Sector::zero();
+    write_anchor(
+        &Anchor {
+            position: start.position,
+            next_commit: start.next_commit,
+        },
+        &mut sector,
+    );
+    sector
+}
+
+/// Brings home what was found of the disk's log: writes each image to its sector, by ascending home, flushes, writes the
+/// anchor with which the log begins anew, and flushes.
+///
+/// A stop at any moment of it leaves an image whose log replays to the same groups, with the same next commit number.
+pub fn replay<D: Disk>(disk: &mut D, g: &Geometry, found: &Found) -> Result<Start, ReplayFault>
+    requires shape { IsGeometry g.now }
+    requires size { anchor_of g.now + 1 + g.now.ring ≤ D.sector_count disk.old }
+    requires homes { HasGroupImages (anchor_of g.now) found.now }
+    requires found { IsTrue D.told → IsFound (as_read (D.cells disk.old)) (anchor_of g.now) g.now.ring found.now }
+    requires one { IsTrue D.told → HasOneImage (D.cells disk.old) }
+    ensures start { IfOk result (IsBehind g.now.ring found.now) }
+    ensures anew { IsTrue D.told → IfOk result (BeginsAnew (anchor_of g.now) g.now.ring
+        (groups_found (anchor_of g.now) (as_read (D.cells disk.old)) found.now) (D.cells disk.new)) }
+    ensures left { IsTrue D.told → (image : List Sector) → IsImage (D.cells disk.new) image → Recovers (anchor_of g.now) g.now.ring
+        (groups_found (anchor_of g.now) (as_read (D.cells disk.old)) found.now) found.now.next_commit image }
+    ensures time { IsTrue D.told → Elapses (D.moment disk.old) (D.moment disk.new) (D.left_since disk.old) (D.left_since disk.new)
+        (Recovers (anchor_of g.now) g.now.ring (groups_found (anchor_of g.now) (as_read (D.cells disk.old)) found.now) found.now.next_commit) }
+    ensures position_end { IsErrOf result ReplayFault.PositionEnd ↔ AreUsedUp g.now.ring found.now }
+    ensures untouched { IsErrOf result ReplayFault.PositionEnd → disk.new ≡ disk.old }
+    ensures write_fault { IsErrOf result ReplayFault.WriteFault → Rose (D.fault_count disk.old) (D.fault_count disk.new) }
+    ensures flush_fault { IsErrOf result ReplayFault.FlushFault → Rose (D.fault_count disk.old) (D.fault_count disk.new) }
+    ensures count { NeverFalls (D.fault_count disk.old) (D.fault_count disk.new) }
+    ensures sectors { D.sector_count disk.new ≡ D.sector_count disk.old }
+    ensures arming { IsAfterWrites (D.arming disk.old) (D.arming disk.new) }
+{
+    home_writes();
+    logs();
+    let Some(start) = start_behind(found, g.ring) else {
+        return Err(ReplayFault::PositionEnd);
+    };
+    let anchor = anchor_of(g);
+    settle_home(disk, &found.images)?;
+    settle_sector(disk, anchor, &anchor_at(&start))?;
+    Ok(start)
+}
