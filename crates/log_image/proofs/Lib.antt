@@ -6,3 +6,4 @@ pub mod Parts
 pub mod Written
 pub mod Homes
 pub mod TornSectors
+pub mod Damages

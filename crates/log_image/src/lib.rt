@@ -3,6 +3,7 @@
 
 mod anchor;
 mod cover;
+mod damage;
 mod disk;
 mod home;
 mod log;
@@ -11,6 +12,7 @@ mod torn;
 
 pub use anchor::{Anchor, read_anchor, write_anchor};
 pub use cover::covers;
+pub use damage::log_damages;
 pub use disk::disk_writes;
 pub use home::home_writes;
 pub use log::logs;
