@@ -243,3 +243,10 @@ pub followed_homes : (ring : List Sector) (anchor : ℕ) (last : LogRecord) (fir
 followed_homes ring anchor last first p number images done =
     subst (λ (l : List Image). All (IsGroupImage anchor) l) (sym done.newest)
     (All-put_all (IsGroupImage anchor) (images_of done.records) [] (All-images_of (IsGroupImage anchor) done.records done.homes) (All-nil (IsGroupImage anchor)))
+
+-- and the next commit number is not 0
+pub followed_number : (ring : List Sector) (anchor : ℕ) (last : LogRecord) (first p number : ℕ) (images : List Image)
+    → IsFollowed ring anchor last first p number images → 1 ≤ first → 1 ≤ number
+followed_number ring anchor last first p number images done from =
+    let bounds = chain-bounds ring last.tail first done.records p number done.chain in
+    omega (arith, bounds.1)

@@ -5,3 +5,4 @@ pub mod Breaks
 pub mod Read
 pub mod Puts
 pub mod Recovering
+pub mod Shown

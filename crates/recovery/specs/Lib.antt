@@ -8,3 +8,5 @@ pub mod Broken
 pub mod Scan
 pub mod Put
 pub mod Replay
+pub mod Overlay
+pub mod Overlaid

@@ -85,6 +85,7 @@ pub(crate) fn follow(
     ensures log { IfOk result (λ found. MatchOption found (NoLogTo ring.now anchor last.now)
         (λ f. (log : Log) × IsLogTo ring.now anchor last.now log × Says log f)) }
     ensures homes { IfOk result (λ found. IfSome found (HasGroupImages anchor)) }
+    ensures number { IfOk result (λ found. IfSome found (λ f. 1 ≤ f.next_commit)) }
 {
     whole_records();
     let Some(end) = end_position(last) else {

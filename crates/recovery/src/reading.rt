@@ -72,6 +72,7 @@ pub fn scan<D: Disk>(alloc: Global, disk: &mut D, g: &Geometry) -> Result<Found,
     ensures found { IsTrue D.told → IfOk result (IsFound (as_read (D.cells disk.old)) (anchor_of g.now) g.now.ring) }
     ensures damaged { IsTrue D.told → IfErr result (Tells (as_read (D.cells disk.old)) (anchor_of g.now) g.now.ring) }
     ensures homes { IfOk result (HasGroupImages (anchor_of g.now)) }
+    ensures number { IfOk result (λ found. 1 ≤ found.next_commit) }
     ensures only_reads { OnlyRead D.told D.cells D.sector_count D.fault_count D.arming D.moment D.left_since disk.old disk.new }
     ensures read_fault { IsErrOf result ScanFault.ReadFault → Rose (D.fault_count disk.old) (D.fault_count disk.new) }
 {

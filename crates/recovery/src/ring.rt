@@ -51,9 +51,11 @@ fn log_of(
     last: &Option<LogRecord>,
 ) -> Result<Found, ScanFault>
     requires last { IsLastOf ring.now start.now.position last.now }
+    requires number { 1 ≤ start.now.next_commit }
     requires place { anchor + 1 + length ring.now < 2 ^ 64 }
     ensures found { IfOk result (λ found. (log : Log) × HasRecords ring.now anchor start.now.position start.now.next_commit log × Says log found) }
     ensures homes { IfOk result (HasGroupImages anchor) }
+    ensures number { IfOk result (λ found. 1 ≤ found.next_commit) }
     ensures broken { IfErr result (BreaksChain ring.now anchor start.now.position) }
 {
     let Some(item) = last else {
@@ -80,9 +82,11 @@ pub(crate) fn read_log(
     anchor: u64,
     start: &Anchor,
 ) -> Result<Found, ScanFault>
+    requires number { 1 ≤ start.now.next_commit }
     requires place { anchor + 1 + length ring.now < 2 ^ 64 }
     ensures found { IfOk result (λ found. (log : Log) × HasLog ring.now anchor start.now.position start.now.next_commit log × Says log found) }
     ensures homes { IfOk result (HasGroupImages anchor) }
+    ensures number { IfOk result (λ found. 1 ≤ found.next_commit) }
     ensures broken { IfErr result (BreaksLog ring.now anchor start.now.position) }
 {
     whole_records();

@@ -2,7 +2,7 @@ use Rattle.std.proofs.Common.{◌≡◌, ◌≤◌, List, sym, ap, subst, ◌∙
 use Rattle.log_record.specs.declared.image.Image.{Image}
 use Rattle.log_batch.specs.Put.{put_all}
 use Rattle.recovery.specs.Follow.{IsFollowed}
-use Rattle.recovery.proofs.Chains.{none_at_tail, zero_at_tail, followed_first, followed_more, followed_none, followed_all, followed_homes}
+use Rattle.recovery.proofs.Chains.{none_at_tail, zero_at_tail, followed_first, followed_more, followed_none, followed_all, followed_homes, followed_number}
 use Rattle.recovery.proofs.chain.follow.Goals as goal
 
 pub returns-in_default-2-clause-log : goal.returns-in_default-2-clause-log
@@ -51,3 +51,9 @@ pub returns-clause-homes : goal.returns-clause-homes
 returns-clause-homes c =
     followed_homes c.args.ring.now c.args.anchor c.args.last.now c.in-Some-2.head.first c.loop-position.position c.loop-position.number
     c.loop-position.images c.loop-position.invariant
+
+pub returns-clause-number : goal.returns-clause-number
+returns-clause-number c =
+    let some : 1 ≤ c.in-Some-2.head.first = omega (arith, c.if-head-eq0.false) in
+    followed_number c.args.ring.now c.args.anchor c.args.last.now c.in-Some-2.head.first c.loop-position.position c.loop-position.number
+    c.loop-position.images c.loop-position.invariant some
