@@ -1,0 +1,3 @@
+mod Unique
+mod Damages
+mod Standing

@@ -1,0 +1,87 @@
+// Laws of the definitions. Each is the contract of a function that does nothing but call the laws that its own rests on.
+
+ghost use Rattle.std.specs.Prelude.{◌≡◌, ◌≤◌, ◌<◌, ◌^◌, ℕ, List};
+ghost use Rattle.life_bytes.specs.declared.sector.Sector.{Sector};
+ghost use Rattle.life_bytes.specs.Sectors.{zero_sector};
+ghost use Rattle.geometry.specs.declared.shape.Geometry.{Geometry};
+ghost use Rattle.life_table.specs.declared.table.Table.{Table};
+ghost use Rattle.life_table.specs.History.{closed};
+ghost use Rattle.life_table.specs.WellFormed.{IsTable};
+ghost use Rattle.sound_image.specs.Damage.{Rule};
+ghost use Rattle.sound_image.specs.Damage.{FirstDamage as FirstDamageOfGroups};
+ghost use Rattle.sound_image.specs.Damage.{IsSound as GroupsAreSound};
+ghost use Rattle.sound_image.specs.Places.{bytes_at};
+ghost use Rattle.sound_image.specs.Reading.{rows_of};
+ghost use Rattle.sound_image.specs.Spelling.{Layouts, CanSpell, spelled};
+ghost use Rattle.sound_image.specs.Stands.{HasSuperblock, IsLongEnough};
+ghost use Rattle.log_image.specs.Anchor.{HasAnchor};
+ghost use Rattle.log_image.specs.Damage.{IsLogDamage};
+ghost use Rattle.log_image.specs.Log.{AreBelow, Log, groups_part};
+ghost use Rattle.whole_image.specs.Front.{anchor_of, ring_of};
+ghost use Rattle.whole_image.specs.Damage.{ImageRule, superblock, of_groups, number_of, FirstDamage, IsSound, Tells, groups_of};
+ghost use Rattle.whole_image.specs.Stands.{Stands};
+
+use geometry::superblocks_tell_geometries;
+use log_image::{logs, overlays};
+use log_record::whole_records;
+use sound_image::{sound_tables_are_well_formed, spelled_images_are_sound};
+
+/// A law: an image has at most one first damage, and none where it is sound. Where its superblock is right and no sector is missing, the first damage of its
+/// anchor and its log is the image's; where these are right too, that of its replayed groups is.
+pub fn one_first_damage()
+    ensures one { (image : List Sector) (a b : ImageRule) (s t : ℕ) → FirstDamage image a s → FirstDamage image b t → (a ≡ b) × (s ≡ t) }
+    ensures none { (image : List Sector) (a : ImageRule) (s : ℕ) → IsSound image → ¬ FirstDamage image a s }
+    ensures of_log { (g : Geometry) (image : List Sector) (rule s : ℕ) → HasSuperblock g image → IsLongEnough g image → IsLogDamage image (anchor_of g) g.ring rule s
+        → (known : ImageRule) × (rule ≡ number_of known) × FirstDamage image known s }
+    ensures of_groups { (g : Geometry) (image : List Sector) (said : Log) (rule : Rule) (s : ℕ) → Tells g image said
+        → FirstDamageOfGroups g (groups_of g image said) rule s → FirstDamage image (of_groups rule) s }
+{
+    superblocks_tell_geometries();
+    logs();
+    whole_records();
+    sound_image::one_first_damage();
+}
+
+/// A law: the first damage of an image whose sector 0 is blank is that it has no superblock.
+pub fn blank_images_are_damaged()
+    ensures { (image : List Sector) → bytes_at image 0 ≡ zero_sector.bytes → FirstDamage image superblock 0 }
+{}
+
+/// A law: an image stands for one table, with one next commit number.
+pub fn images_stand_for_one_table()
+    ensures { (image : List Sector) (t u : Table) (c d : ℕ) → Stands image t c → Stands image u d → (t ≡ u) × (c ≡ d) }
+{
+    superblocks_tell_geometries();
+    logs();
+    whole_records();
+}
+
+/// A law: a sound image stands for some table. It is the one that its replayed groups have; it is well formed, and nobody holds an inode of it.
+pub fn sound_images_stand()
+    ensures stand { (image : List Sector) → IsSound image → (t : Table) × (c : ℕ) × Stands image t c }
+    ensures made { (g : Geometry) (image : List Sector) (said : Log) → Tells g image said → GroupsAreSound g (groups_of g image said)
+        → Stands image (rows_of g (groups_of g image said)) said.next }
+    ensures well_formed { (image : List Sector) (t : Table) (c : ℕ) → Stands image t c → IsTable t }
+    ensures no_opens { (image : List Sector) (t : Table) (c : ℕ) → Stands image t c → closed t ≡ t }
+{
+    superblocks_tell_geometries();
+    logs();
+    whole_records();
+    sound_tables_are_well_formed();
+}
+
+/// A law: an image whose superblock, anchor and log are right, and whose replayed groups spell a table, stands for it, with nobody holding an inode. So does
+/// one without records, whose groups spell the table as they are.
+pub fn spelled_images_stand()
+    ensures replayed { (g : Geometry) (t : Table) (layouts : Layouts) (base image : List Sector) (said : Log) → Tells g image said → CanSpell g t layouts base
+        → groups_of g image said ≡ spelled g t layouts base → Stands image (closed t) said.next }
+    ensures empty { (g : Geometry) (t : Table) (layouts : Layouts) (base image : List Sector) (position next : ℕ) → HasSuperblock g image → IsLongEnough g image
+        → HasAnchor image (anchor_of g) g.ring position next → AreBelow (ring_of g image) position → CanSpell g t layouts base
+        → groups_part (anchor_of g) image ≡ spelled g t layouts base → Stands image (closed t) next }
+{
+    superblocks_tell_geometries();
+    logs();
+    overlays();
+    whole_records();
+    spelled_images_are_sound();
+}
