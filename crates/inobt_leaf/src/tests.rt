@@ -52,6 +52,17 @@ fn first_file_page(rt: HostRuntime) -> Result<(), Fail> {
 }
 
 #[test]
+fn empty_page(rt: HostRuntime) -> Result<(), Fail> {
+    let mut page = [Sector { bytes: [7; 512] }; 8];
+    write_empty_page(1, 528, &UUID, &mut page);
+    let Ok(leaf) = read_page(rt.alloc(), &page, 2, 1, 528, &UUID) else {
+        panic!(rt; "not read")
+    };
+    assert_eq!(rt; leaf.chunks().len(), 0);
+    Ok(())
+}
+
+#[test]
 fn one_bit_spoils_a_page(rt: HostRuntime) -> Result<(), Fail> {
     for (sector, byte) in [
         (0, 0),

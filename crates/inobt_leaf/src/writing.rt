@@ -1,6 +1,6 @@
 // Writing a leaf's page.
 
-ghost use Rattle.std.specs.Prelude.{◌≡◌, ◌+◌, ◌≤◌, length};
+ghost use Rattle.std.specs.Prelude.{◌≡◌, ◌+◌, ◌≤◌, [], length};
 ghost use Rattle.life_limits.specs.declared.TheConstants.{BLOCK_BYTES, MAX_CHUNKS};
 ghost use Rattle.life_bytes.specs.Pieces.{placed};
 ghost use Rattle.life_bytes.specs.SectorBytes.{bytes_of};
@@ -88,5 +88,14 @@ pub fn write_page(
     ensures { bytes_of page.new ≡ spelling leaf.now group at uuid.now }
 {
     let bytes = spell(leaf.chunks(), group, at, uuid);
+    scatter(&bytes, page);
+}
+
+/// Writes the page of a leaf without chunks, which takes no memory: the place is named as for `write_page`.
+pub fn write_empty_page(group: u32, at: u64, uuid: &[u8; 16], page: &mut [Sector])
+    requires { length page.old ≡ 8 }
+    ensures { bytes_of page.new ≡ spelling [] group at uuid.now }
+{
+    let bytes = spell(&[], group, at, uuid);
     scatter(&bytes, page);
 }
