@@ -1,0 +1,103 @@
+-- What several calls of a disk leave, one after the other.
+use Rattle.std.proofs.Common.{◌≡◌, ◌+◌, ℕ, zero, suc, Bool, List, refl, sym, ap, subst, ◌∙◌, inl, inr, arith}
+use Rattle.std.specs.Prelude.{IsTrue, Result, Ok, Err, OnOk, OnErr}
+use Rattle.life_bytes.specs.declared.sector.Sector.{Sector}
+use Rattle.disk_model.specs.Disk.{Arming, Cell, Elapses, IsImage, IsPartlyWritten, after_write, flushed, written}
+use Rattle.disk_model.specs.DiskLaws.{IsImage-before_flush, IsImage-partly_written}
+use Rattle.image_make.specs.Outcome.{LeavesOnly, after_writes}
+
+weaker : (before now : ℕ) (past since : ℕ → List Sector → Type 0) (P Q : List Sector → Type 0) → ((image : List Sector) → P image → Q image)
+    → Elapses before now past since P → Elapses before now past since Q
+weaker before now past since P Q has time = record {
+  later = time.later;
+  nothing_else = λ moment image le left. elim (time.nothing_else moment image le left) [ inl was ↦ inl was | inr is ↦ inr (has image is) ];
+  keeps = time.keeps;
+}
+
+both : (a b d : ℕ) (past mid since : ℕ → List Sector → Type 0) (P : List Sector → Type 0) → Elapses a b past mid P → Elapses b d mid since P → Elapses a d past since P
+both a b d past mid since P first second = record {
+  later = omega (arith, first.later, second.later);
+  nothing_else = λ moment image le left. elim (second.nothing_else moment image (omega (arith, first.later)) left) [
+    | inl was ↦ first.nothing_else moment image le was
+    | inr is ↦ inr is
+  ];
+  keeps = λ moment image le left. second.keeps moment image (omega (arith, first.later)) (first.keeps moment image le left);
+}
+
+after_both : (n m : ℕ) (x : Arming) → after_writes (n + m) x ≡ after_writes m (after_writes n x)
+after_both zero m x = let e : 0 + m ≡ m = omega arith in ap (λ (k : ℕ). after_writes k x) e
+after_both (suc n) m x = let e : suc n + m ≡ suc (n + m) = omega arith in ap (λ (k : ℕ). after_writes k x) e ∙ after_both n m (after_write x)
+
+pub leaves_none : {D : Type 0} (told : Bool) (cells : D → List Cell) (sector_count moment : D → ℕ) (arming : D → Arming) (left : D → ℕ → List Sector → Type 0) (P : List Sector → Type 0)
+    (disk : D) → (IsTrue told → (image : List Sector) → IsImage (cells disk) image → P image) → LeavesOnly told cells sector_count moment arming left P disk disk
+leaves_none told cells sector_count moment arming left P disk has = record {
+  images = has;
+  moments = λ tells. record { later = omega arith; nothing_else = λ moment image le left. inl left; keeps = λ moment image le left. left };
+  sectors = refl;
+  writes = 0;
+  armed = refl;
+}
+
+pub leaves_both : {D : Type 0} (told : Bool) (cells : D → List Cell) (sector_count moment : D → ℕ) (arming : D → Arming) (left : D → ℕ → List Sector → Type 0) (P : List Sector → Type 0)
+    (a b d : D) → LeavesOnly told cells sector_count moment arming left P a b → LeavesOnly told cells sector_count moment arming left P b d
+    → LeavesOnly told cells sector_count moment arming left P a d
+leaves_both told cells sector_count moment arming left P a b d first second = record {
+  images = second.images;
+  moments = λ tells. both (moment a) (moment b) (moment d) (left a) (left b) (left d) P (first.moments tells) (second.moments tells);
+  sectors = second.sectors ∙ first.sectors;
+  writes = first.writes + second.writes;
+  armed = second.armed ∙ ap (after_writes second.writes) first.armed ∙ sym (after_both first.writes second.writes (arming a));
+}
+
+pub leaves_weaker : {D : Type 0} (told : Bool) (cells : D → List Cell) (sector_count moment : D → ℕ) (arming : D → Arming) (left : D → ℕ → List Sector → Type 0) (P Q : List Sector → Type 0)
+    (a b : D) → ((image : List Sector) → P image → Q image) → LeavesOnly told cells sector_count moment arming left P a b → LeavesOnly told cells sector_count moment arming left Q a b
+leaves_weaker told cells sector_count moment arming left P Q a b has first = record {
+  images = λ tells image is. has image (first.images tells image is);
+  moments = λ tells. weaker (moment a) (moment b) (left a) (left b) P Q has (first.moments tells);
+  sectors = first.sectors;
+  writes = first.writes;
+  armed = first.armed;
+}
+
+after_attempt : {T E : Type 0} (result : Result T E) (at : ℕ) (pieces : List Sector) (old new : List Cell) (image : List Sector) → OnOk result (new ≡ written at pieces old)
+    → OnErr result (IsPartlyWritten at pieces old new) → IsImage new image → IsImage (written at pieces old) image
+after_attempt (Ok x) at pieces old new image ok err is = subst (λ (c : List Cell). IsImage c image) ok is
+after_attempt (Err e) at pieces old new image ok err is = IsImage-partly_written at pieces old new image err is
+
+-- a write
+pub leaves_write : {D T E : Type 0} (told : Bool) (cells : D → List Cell) (sector_count moment : D → ℕ) (arming : D → Arming) (left : D → ℕ → List Sector → Type 0) (P : List Sector → Type 0)
+    (a b : D) (result : Result T E) (at : ℕ) (pieces : List Sector)
+    → (IsTrue told → OnOk result (cells b ≡ written at pieces (cells a)))
+    → (IsTrue told → OnErr result (IsPartlyWritten at pieces (cells a) (cells b)))
+    → (IsTrue told → Elapses (moment a) (moment b) (left a) (left b) (IsImage (written at pieces (cells a))))
+    → sector_count b ≡ sector_count a → arming b ≡ after_write (arming a)
+    → (IsTrue told → (image : List Sector) → IsImage (written at pieces (cells a)) image → P image)
+    → LeavesOnly told cells sector_count moment arming left P a b
+leaves_write told cells sector_count moment arming left P a b result at pieces ok err time sectors armed has = record {
+  images = λ tells image is. has tells image (after_attempt result at pieces (cells a) (cells b) image (ok tells) (err tells) is);
+  moments = λ tells. weaker (moment a) (moment b) (left a) (left b) (IsImage (written at pieces (cells a))) P (has tells) (time tells);
+  sectors = sectors;
+  writes = 1;
+  armed = armed;
+}
+
+after_flush : {T E : Type 0} (result : Result T E) (old new : List Cell) (image : List Sector) → OnOk result (new ≡ flushed old) → OnErr result (new ≡ old) → IsImage new image → IsImage old image
+after_flush (Ok x) old new image ok err is = IsImage-before_flush old image (subst (λ (c : List Cell). IsImage c image) ok is)
+after_flush (Err e) old new image ok err is = subst (λ (c : List Cell). IsImage c image) err is
+
+-- a flush
+pub leaves_flush : {D T E : Type 0} (told : Bool) (cells : D → List Cell) (sector_count moment : D → ℕ) (arming : D → Arming) (left : D → ℕ → List Sector → Type 0) (P : List Sector → Type 0)
+    (a b : D) (result : Result T E)
+    → (IsTrue told → OnOk result (cells b ≡ flushed (cells a)))
+    → OnErr result (cells b ≡ cells a)
+    → (IsTrue told → Elapses (moment a) (moment b) (left a) (left b) (IsImage (cells a)))
+    → sector_count b ≡ sector_count a → arming b ≡ arming a
+    → (IsTrue told → (image : List Sector) → IsImage (cells a) image → P image)
+    → LeavesOnly told cells sector_count moment arming left P a b
+leaves_flush told cells sector_count moment arming left P a b result ok err time sectors armed has = record {
+  images = λ tells image is. has tells image (after_flush result (cells a) (cells b) image (ok tells) err is);
+  moments = λ tells. weaker (moment a) (moment b) (left a) (left b) (IsImage (cells a)) P (has tells) (time tells);
+  sectors = sectors;
+  writes = 0;
+  armed = armed;
+}

@@ -1,0 +1,8 @@
+mod Parts
+mod Putting
+mod Places
+mod Maps
+mod Told
+mod Leaving
+mod Sectors
+mod Super

@@ -1,0 +1,21 @@
+// What the sectors that are written come to.
+
+ghost use Rattle.std.specs.Prelude.{List};
+ghost use Rattle.life_bytes.specs.declared.sector.Sector.{Sector};
+ghost use Rattle.geometry.specs.declared.shape.Geometry.{Geometry};
+ghost use Rattle.geometry.specs.Shape.{IsGeometry};
+ghost use Rattle.image_make.specs.Empty.{IsTold};
+ghost use Rattle.image_make.specs.Outcome.{IsBlank, IsBlankOrEmpty, IsEmptyImage};
+
+use life_table::tables_stay_well_formed;
+use whole_image::{blank_images_are_damaged, spelled_images_stand};
+
+/// Laws of the sectors: without the superblock an image is damaged, and with it the image stands for the empty table.
+pub(crate) fn made_images()
+    ensures blank { (g : Geometry) (image : List Sector) → IsBlank image → IsBlankOrEmpty g image }
+    ensures told { (g : Geometry) (image : List Sector) → IsGeometry g → IsTold g image → IsEmptyImage g image }
+{
+    tables_stay_well_formed();
+    spelled_images_stand();
+    blank_images_are_damaged();
+}
