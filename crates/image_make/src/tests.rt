@@ -1,12 +1,13 @@
 // Images over disks in memory, with the bytes that the format says.
-ghost use Rattle.std.specs.Prelude.{◌≡◌, IfOk, replicate};
+ghost use Rattle.std.specs.Prelude.{◌≡◌, IfOk, length, replicate};
 ghost use Rattle.life_bytes.specs.Sectors.{zero_sector};
-ghost use Rattle.disk_model.specs.MemoryDisk.{fresh};
+ghost use Rattle.disk_model.specs.Disk.{settled_as};
+ghost use Rattle.disk_model.specs.MemoryDisk.{cells_of};
 
 use super::*;
 use disk_model::{Disk, FaultDisk, MemoryDisk};
 use geometry::Geometry;
-use life_bytes::Sector;
+use life_bytes::{Sector, put_bytes, put_u8};
 use std::alloc::Global;
 use std::test::Fail;
 
@@ -21,66 +22,85 @@ const TWO: Geometry = Geometry {
     uuid: UUID,
 };
 
-/// A sector with bytes at some places, and zero elsewhere.
-fn sector_of(pieces: &[(usize, &[u8])]) -> Sector {
-    let mut sector = Sector::zero();
-    for (at, bytes) in pieces {
-        for (index, byte) in bytes.iter().enumerate() {
-            if let Some(place) = sector.bytes.get_mut(at.saturating_add(index)) {
-                *place = *byte;
-            }
-        }
-    }
+/// The header of a group, with its checksum.
+fn header(group: u8, checksum: &[u8; 4]) -> Sector {
+    let mut sector = Sector { bytes: [0; 512] };
+    put_bytes(&mut sector.bytes, 0, b"XAGI\0\0\0\x01\0\0\0");
+    put_u8(&mut sector.bytes, 11, group);
+    put_bytes(
+        &mut sector.bytes,
+        12,
+        b"\0\0\0\x40\0\0\0\0\0\0\0\x02\0\0\0\x01\0\0\0\0",
+    );
+    put_bytes(&mut sector.bytes, 32, &[0xff; 264]);
+    put_bytes(&mut sector.bytes, 296, &UUID);
+    put_bytes(&mut sector.bytes, 312, checksum);
     sector
 }
 
-/// The header of a group, with its checksum.
-fn header(group: u8, checksum: &[u8]) -> Sector {
-    sector_of(&[
-        (0, b"XAGI\0\0\0\x01\0\0\0"),
-        (11, &[group]),
-        (12, b"\0\0\0\x40\0\0\0\0\0\0\0\x02\0\0\0\x01\0\0\0\0"),
-        (32, &[0xff; 264]),
-        (296, &UUID),
-        (312, checksum),
-    ])
+/// The first sector of a group's page, which begins at this sector of the image.
+fn page(group: u8, at: &[u8; 2], checksum: &[u8; 4]) -> Sector {
+    let mut sector = Sector { bytes: [0; 512] };
+    put_bytes(
+        &mut sector.bytes,
+        0,
+        b"IAB3\0\0\0\0\xff\xff\xff\xff\xff\xff\xff\xff",
+    );
+    put_bytes(&mut sector.bytes, 22, at);
+    put_bytes(&mut sector.bytes, 32, &UUID);
+    put_u8(&mut sector.bytes, 51, group);
+    put_bytes(&mut sector.bytes, 52, checksum);
+    sector
 }
 
-/// The first sector of a group's page, which begins at this sector of the image.
-fn page(group: u8, at: &[u8], checksum: &[u8]) -> Sector {
-    sector_of(&[
-        (0, b"IAB3\0\0\0\0\xff\xff\xff\xff\xff\xff\xff\xff"),
-        (22, at),
-        (32, &UUID),
-        (51, &[group]),
-        (52, checksum),
-    ])
+/// The superblock.
+fn superblock() -> Sector {
+    let mut sector = Sector { bytes: [0; 512] };
+    put_bytes(
+        &mut sector.bytes,
+        0,
+        b"LIFE\0\0\0\x01\0\0\0\x02\0\0\0\x40\0\0\x01\0",
+    );
+    put_bytes(&mut sector.bytes, 24, &UUID);
+    put_bytes(&mut sector.bytes, 40, b"\xe4\xe2\x95\x27");
+    sector
+}
+
+/// A bitmap's first sector, in which blocks 24 to 63 are free.
+fn bitmap() -> Sector {
+    let mut sector = Sector { bytes: [0; 512] };
+    put_bytes(&mut sector.bytes, 3, &[0xff; 5]);
+    sector
+}
+
+fn anchor() -> Sector {
+    let mut sector = Sector { bytes: [0; 512] };
+    put_bytes(
+        &mut sector.bytes,
+        0,
+        b"ANCH\x8a\x2b\xdb\xb8\0\0\0\0\0\0\x01\0\0\0\0\0\0\0\0\x01",
+    );
+    sector
 }
 
 /// What stands at a sector of the image of two groups.
 fn wanted(at: u64) -> Sector {
     match at {
-        0 => sector_of(&[
-            (0, b"LIFE\0\0\0\x01\0\0\0\x02\0\0\0\x40\0\0\x01\0"),
-            (24, &UUID),
-            (40, b"\xe4\xe2\x95\x27"),
-        ]),
+        0 => superblock(),
         2 => header(0, b"\xa1\xb6\x2f\x1c"),
         514 => header(1, b"\x10\xa0\xdb\x6a"),
-        8 | 520 => sector_of(&[(3, &[0xff; 5])]),
+        8 | 520 => bitmap(),
         16 => page(0, b"\0\x10", b"\xcd\x5b\xf0\xf0"),
         528 => page(1, b"\x02\x10", b"\x61\x2a\x41\xa6"),
-        1024 => sector_of(&[(
-            0,
-            b"ANCH\x8a\x2b\xdb\xb8\0\0\0\0\0\0\x01\0\0\0\0\0\0\0\0\x01",
-        )]),
-        _ => Sector::zero(),
+        1024 => anchor(),
+        _ => Sector { bytes: [0; 512] },
     }
 }
 
 /// A disk of zero bytes with a few sectors more than the image of two groups.
 fn blank(alloc: Global) -> Result<MemoryDisk, Fail>
-    ensures { IfOk result (λ disk. disk ≡ fresh (replicate 1290 zero_sector)) }
+    ensures blank { IfOk result (λ disk. cells_of disk ≡ settled_as (replicate (length (cells_of disk)) zero_sector)) }
+    ensures sectors { IfOk result (λ disk. length (cells_of disk) ≡ 1290) }
 {
     Ok(MemoryDisk::new(alloc, 1290)?)
 }
@@ -137,7 +157,7 @@ fn a_stop_leaves_no_superblock_or_the_whole_image(rt: HostRuntime) -> Result<(),
             assert_eq!(rt; result, answer, "call {call}");
             assert!(rt; left.sectors() > 0);
             let whole = is_made(&left);
-            let blank = left.sector(0) == Sector::zero();
+            let blank = left.sector(0) == Sector { bytes: [0; 512] };
             // The superblock is written by the fifth call, and flushed by the sixth.
             assert_eq!(rt;
                 whole,
