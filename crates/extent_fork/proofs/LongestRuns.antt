@@ -1,8 +1,9 @@
 -- The runs of a list of blocks.
-use Rattle.std.proofs.Common.{◌≡◌, ◌≢◌, ◌≤◌, ◌<◌, ◌+◌, ◌-◌, ◌*◌, ℕ, zero, suc, Bool, true, false, cond, eqb, List, [], ◌∷◌, ◌++◌, length, drop, get_or, refl, sym, ap, subst, ◌∙◌, arith, append_assoc, eq-eqb, add-one, inl, inr, ◌⊎◌}
+use Rattle.std.proofs.Common.{◌≡◌, ◌≢◌, ◌≤◌, ◌<◌, ◌+◌, ◌-◌, ◌*◌, ℕ, zero, suc, Bool, true, false, cond, eqb, List, [], ◌∷◌, ◌++◌, length, drop, take, get_or, refl, sym, ap, subst, ◌∙◌, arith, append_assoc, eq-eqb, add-one, inl, inr, ◌⊎◌}
 use Rattle.std.specs.List.{AllByRecursion, flat_map, range_with_len}
 use Rattle.std.proofs.lemmas.Bool.Decides.{eqb_tells}
-use Rattle.std.proofs.lemmas.List.{drop_more, drop_all}
+use Rattle.std.proofs.lemmas.List.{drop_more, drop_all, take_more_set}
+use Rattle.std.proofs.Math.ListN.{set}
 use Rattle.std.proofs.lemmas.List.Concat.{flat_map-cons}
 use Rattle.extent_fork.specs.declared.extent.Extent.{Extent}
 use Rattle.extent_fork.specs.Runs.{single, end_of, grown, runs_from, runs, blocks_of, AreApart, AreLongestRuns}
@@ -99,6 +100,10 @@ next_small first rest blocks i e all lt = subst (λ (l : List ℕ). get_or l (su
 -- the runs so far, and the last of them, where no block is left
 pub last_run : (front : List Extent) (run : Extent) (rest : List ℕ) (i : ℕ) (all : List Extent) → length rest ≤ i → front ++ runs_from run (drop i rest) ≡ all → front ++ run ∷ [] ≡ all
 last_run front run rest i all le whole = ap (λ (l : List ℕ). front ++ runs_from run l) (sym (drop_all i rest le)) ∙ whole
+
+-- one run more is filled in
+pub took : (old new : List Extent) (filled next : ℕ) (run : Extent) → filled < length old → next ≡ filled + 1 → new ≡ set old filled run → take next new ≡ take filled old ++ run ∷ []
+took old new filled next run room count put = ap (λ (n : ℕ). take n new) count ∙ ap (take (filled + 1)) put ∙ take_more_set old filled run room
 
 abbrev AreData : List ℕ → Type 0
 AreData blocks = (k : ℕ) (d : ℕ) → k < length blocks → (24 ≤ get_or blocks k d) × (get_or blocks k d < 16384)

@@ -17,7 +17,7 @@ pub use extent::Extent;
 pub use fault::{ForkFault, RunsFault};
 pub use laws::spelled_forks_are_read;
 pub use reading::read_fork;
-pub use runs::runs_of;
+pub use runs::{fill_runs, runs_of};
 pub use writing::write_fork;
 
 #[cfg(test)]
@@ -46,6 +46,10 @@ mod tests {
         ];
         assert_eq!(rt; runs.as_slice(), wanted.as_slice());
         assert_eq!(rt; runs_of(rt.alloc(), &[])?.len(), 0);
+        let mut places = [RUN; 2];
+        assert_eq!(rt; fill_runs(&[52, 53, 32], &mut places), Some(2));
+        assert_eq!(rt; places, wanted);
+        assert_eq!(rt; fill_runs(&[52, 53, 32], &mut places[..1]), None);
         Ok(())
     }
 
