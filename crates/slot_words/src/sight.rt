@@ -1,0 +1,42 @@
+//! What an open sees of a word.
+
+ghost use Rattle.slot_words.specs.Words.{IsWord};
+ghost use Rattle.slot_words.specs.Steps.{Sees, Shows};
+
+use crate::word::{Word, read_word};
+use life_limits::MAX_PINS;
+
+/// What a word shows to somebody who wants to open the inode of some generation.
+#[derive(Clone, Copy, Debug, PartialEq, Eq)]
+pub enum Sight {
+    /// It can be opened.
+    Open,
+    /// It is in the cache, and has as many pins as a word can have.
+    Crowded,
+    /// It is in the cache, has no links and no pins, and waits to be freed.
+    Awaits,
+    /// Another generation or none is in the cache.
+    Other,
+}
+
+pub(crate) fn sight_of(word: Word, generation: u32) -> Sight
+    requires { IsWord word }
+    ensures { Sees word generation result }
+{
+    if !word.live || word.generation != generation {
+        Sight::Other
+    } else if word.pins == MAX_PINS {
+        Sight::Crowded
+    } else if word.unlinked && word.pins == 0 {
+        Sight::Awaits
+    } else {
+        Sight::Open
+    }
+}
+
+/// What a word shows to somebody who wants to open the inode of this generation.
+pub fn shows(word: u64, generation: u32) -> Sight
+    ensures { Shows word generation result }
+{
+    sight_of(read_word(word), generation)
+}
