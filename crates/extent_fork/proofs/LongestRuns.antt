@@ -1,5 +1,6 @@
 -- The runs of a list of blocks.
 use Rattle.std.proofs.Common.{◌≡◌, ◌≢◌, ◌≤◌, ◌<◌, ◌+◌, ◌-◌, ◌*◌, ℕ, zero, suc, Bool, true, false, cond, eqb, List, [], ◌∷◌, ◌++◌, length, drop, take, get_or, refl, sym, ap, subst, ◌∙◌, arith, append_assoc, eq-eqb, add-one, inl, inr, ◌⊎◌}
+use Rattle.std.specs.Prelude.{Option, None, Some, IsSome, IfSome}
 use Rattle.std.specs.List.{AllByRecursion, flat_map, range_with_len}
 use Rattle.std.proofs.lemmas.Bool.Decides.{eqb_tells}
 use Rattle.std.proofs.lemmas.List.{drop_more, drop_all, take_more_set}
@@ -132,6 +133,14 @@ for_fork blocks found e below above =
     by (block ∷ blocks) small =
         let one = small 0 0 (omega arith) in
         data_runs (single block) blocks (record { count = omega arith; start = one.0; end = omega (arith, one.1) }) (λ k d lt. small (suc k) d (omega arith))
+
+-- the runs that are filled in are those of a fork
+pub filled_for_fork : (r : Option ℕ) (old new : List Extent) (filled : ℕ) (run : Extent) (rest : List ℕ) (i : ℕ) (blocks : List ℕ) → (IsSome r → filled < length old)
+    → IfSome r (λ next. (next ≡ filled + 1) × (new ≡ set old filled run)) → length rest ≤ i → take filled old ++ runs_from run (drop i rest) ≡ runs blocks
+    → ((k : ℕ) (d : ℕ) → k < length blocks → get_or blocks k d < 16384) → ((k : ℕ) (d : ℕ) → k < length blocks → 24 ≤ get_or blocks k d) → IfSome r (λ count. AreRuns (take count new))
+filled_for_fork None old new filled run rest i blocks room put le whole below above = tt
+filled_for_fork (Some next) old new filled run rest i blocks room put le whole below above =
+    for_fork blocks (take next new) (took old new filled next run (room refl) put.0 put.1 ∙ last_run (take filled old) run rest i (runs blocks) le whole) below above
 
 -- ---- the runs of the blocks of runs
 

@@ -30,6 +30,8 @@ pub fn fill_runs(blocks: &[u32], into: &mut [Extent]) -> Option<usize>
     ensures found { IfSome result (λ count. take count into.new ≡ runs blocks.now) }
     ensures count { IfSome result (λ count. count ≡ length (runs blocks.now)) }
     ensures room { IsSome result ↔ (length (runs blocks.now) ≤ length into.old) }
+    // Runs of data blocks are runs that a fork may have.
+    ensures for_fork { All (λ block. FIRST_DATA_BLOCK ≤ block) blocks.now → IfSome result (λ count. AreRuns (take count into.new)) }
 {
     let Some((first, rest)) = blocks.split_first() else {
         return Some(0);
@@ -58,7 +60,6 @@ pub fn runs_of(alloc: Global, blocks: &[u32]) -> Result<Vec<Extent>, RunsFault>
     requires { All (λ block. block < MAX_BLOCKS) blocks.now }
     ensures found { IfOk result (λ v. v.items ≡ runs blocks.now) }
     ensures longest { IfOk result (λ v. AreLongestRuns blocks.now v.items) }
-    // Runs of data blocks are runs that a fork may have.
     ensures for_fork { All (λ block. FIRST_DATA_BLOCK ≤ block) blocks.now → IfOk result (λ v. AreRuns v.items) }
     ensures few { IfOk result (λ v. length v.items ≤ MAX_EXTENTS) }
     ensures too_many { result ≡ Err RunsFault.TooManyExtents → MAX_EXTENTS < length (runs blocks.now) }

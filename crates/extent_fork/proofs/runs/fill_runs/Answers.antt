@@ -2,7 +2,7 @@ use Rattle.std.proofs.Common.{◌≡◌, ◌+◌, ◌++◌, List, [], ◌∷◌,
 use Rattle.std.proofs.Math.ListN.{length-set}
 use Rattle.extent_fork.specs.declared.extent.Extent.{Extent}
 use Rattle.extent_fork.specs.Runs.{single, runs_from}
-use Rattle.extent_fork.proofs.LongestRuns.{goes_on, begins, next_small, took}
+use Rattle.extent_fork.proofs.LongestRuns.{goes_on, begins, next_small, took, filled_for_fork}
 use Rattle.extent_fork.proofs.runs.fill_runs.Goals as goal
 
 pub loop-block-preserved-then-block-run : goal.loop-block-preserved-then-block-run
@@ -30,3 +30,8 @@ loop-block-preserved c =
       within = omega (arith, ap (length {A = Extent}) put.1, length-set {A = Extent}, room, put.0);
       low = omega (arith, next_small c.in-Some.first.now c.in-Some.rest.now c.args.blocks.now c.loop-block.block-index c.in-Some.ensures.cases.0 c.requires c.loop-block-test.true);
     }
+
+pub returns-clause-for_fork : goal.returns-clause-for_fork
+returns-clause-for_fork c = λ data_blocks.
+    filled_for_fork c.put_run-2.result c.loop-block.into c.put_run-2.new.into c.loop-block.filled c.loop-block.run c.in-Some.rest.now c.loop-block.block-index c.args.blocks.now c.put_run-2.ensures.room.0 c.put_run-2.ensures.put
+    c.loop-block-test.false c.loop-block.invariant.whole c.requires data_blocks

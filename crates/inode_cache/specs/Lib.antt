@@ -1,0 +1,4 @@
+pub mod Inodes
+pub mod Codes
+pub mod Caches
+pub mod Flush

@@ -1,0 +1,166 @@
+//! The inodes of one group that are in core.
+
+ghost use Rattle.std.specs.Prelude.{◌≡◌, ◌≤◌, ◌<◌, ◌+◌, ◌*◌, ◌↔◌, ℕ, None, length, is_some, IsSome, IsSomeAnd, IsTrue, IsOk, OnOk, OnErr};
+ghost use Rattle.std.specs.FinMap as map;
+ghost use Rattle.life_bytes.specs.declared.sector.Sector.{Sector};
+ghost use Rattle.life_limits.specs.declared.TheConstants.{GROUP_NUMBERS, MAX_GROUPS};
+ghost use Rattle.inode_cache.specs.declared.inode.TheConstants.{CLUSTER_INODES};
+ghost use Rattle.inode_cache.specs.Inodes.{IsInode};
+ghost use Rattle.inode_cache.specs.Caches.{IsClean, clean, dirty, inode_at, with_inode, without_inode};
+ghost use Rattle.inode_cache.specs.Flush.{AreFlushed, AreRows, AreUpToDate, IsFlushed, IsFlushedAt, flushed_bytes};
+
+use crate::inode::{CLUSTER_INODES, Incore, Kept, write_inode};
+use inode_core::Core;
+use life_bytes::Sector;
+use life_ports::NoMemory;
+use life_table::Blocks;
+use std::alloc::Global;
+use std::collections::HashMap;
+use std::marker::Model;
+
+/// The inodes of one group that are in core, each by its number in the group. A look-up costs the same however many there
+/// are.
+#[derive(Drop)]
+pub struct InodeCache {
+    group: u32,
+    uuid: [u8; 16],
+    inodes: HashMap<u32, Kept>,
+}
+
+impl Model for InodeCache {
+    ghost use Rattle.std.specs.Prelude.{◌<◌};
+    ghost use Rattle.std.specs.FinMap as map;
+    ghost use Rattle.std.specs.HashMap.{spare};
+    ghost use Rattle.life_limits.specs.declared.TheConstants.{MAX_GROUPS};
+    ghost use Rattle.inode_cache.specs.Caches.{AreInodes, Cache, cache_code};
+
+    ghost Value = { Cache };
+
+    ghost coded = { cache_code };
+
+    ghost view = { λ c. record { group = c.group; uuid = c.uuid; inodes = map.from_entries c.inodes.entries; spare = spare c.inodes } };
+
+    ghost invariant = { λ c. AreInodes c.inodes.entries × (c.group < MAX_GROUPS) };
+}
+
+/// A cache without inodes, which takes no memory.
+pub fn begin_cache(alloc: Global, group: u32, uuid: [u8; 16]) -> InodeCache
+    requires { group < MAX_GROUPS }
+    ensures group { result.group ≡ group }
+    ensures uuid { result.uuid ≡ uuid }
+    ensures none { result.inodes ≡ map.empty }
+{
+    InodeCache {
+        group,
+        uuid,
+        inodes: HashMap::new(alloc),
+    }
+}
+
+impl InodeCache {
+    /// Makes room for one inode.
+    pub fn reserve(&mut self) -> Result<(), NoMemory>
+        ensures same { self.new ≡ record self.old { spare = self.new.spare } }
+        ensures room { OnOk result (1 ≤ self.new.spare) }
+        ensures kept { self.old.spare ≤ self.new.spare }
+        ensures succeeds { 1 ≤ self.old.spare → IsOk result }
+    {
+        self.inodes.reserve(1)?;
+        Ok(())
+    }
+
+    /// Puts an inode in that its buffer spells. It takes no memory where there is room for one.
+    pub fn install(&mut self, agino: u32, core: Core, blocks: Blocks) -> Result<(), NoMemory>
+        requires agino_small { agino < GROUP_NUMBERS }
+        requires absent { inode_at self.old agino ≡ None }
+        requires inode { IsInode (record { core = core; blocks = blocks }) }
+        ensures installed { OnOk result (self.new ≡ with_inode agino (clean (record { core = core; blocks = blocks })) self.old self.new.spare) }
+        ensures same { OnErr result (self.new ≡ record self.old { spare = self.new.spare }) }
+        ensures succeeds { 1 ≤ self.old.spare → IsOk result }
+        ensures spare { self.old.spare ≤ self.new.spare + 1 }
+    {
+        let kept = Kept {
+            inode: Incore { core, blocks },
+            dirty: false,
+        };
+        self.inodes.insert(agino, kept)?;
+        Ok(())
+    }
+
+    /// Whether the inode is in core.
+    pub fn has(&self, agino: u32) -> bool
+        ensures { result ≡ is_some (inode_at self.now agino) }
+    {
+        self.inodes.contains_key(&agino)
+    }
+
+    /// The inode, which has to be in core.
+    pub fn get(&self, agino: u32) -> &Incore
+        requires { IsSome (inode_at self.now agino) }
+        ensures found { IsSomeAnd (inode_at self.now agino) (λ kept. kept.inode ≡ result.now) }
+        ensures inode { IsInode result.now }
+    {
+        &self.inodes.get(&agino).unwrap().inode
+    }
+
+    /// Whether the inode, which has to be in core, is as its buffer spells it.
+    pub fn clean(&self, agino: u32) -> bool
+        requires { IsSome (inode_at self.now agino) }
+        ensures { IsTrue result ↔ IsClean self.now agino }
+    {
+        !self.inodes.get(&agino).unwrap().dirty
+    }
+
+    /// Puts another core and other blocks in the place of those of an inode in core, which is dirty from then on. It takes no
+    /// memory.
+    pub fn change(&mut self, agino: u32, core: Core, blocks: Blocks)
+        requires in_core { IsSome (inode_at self.old agino) }
+        requires inode { IsInode (record { core = core; blocks = blocks }) }
+        ensures { self.new ≡ with_inode agino (dirty (record { core = core; blocks = blocks })) self.old self.old.spare }
+    {
+        let kept = Kept {
+            inode: Incore { core, blocks },
+            dirty: true,
+        };
+        *self.inodes.get_mut(&agino).unwrap() = kept;
+    }
+
+    /// Copies an inode into its buffer, where it is in core and dirty, and makes it clean.
+    fn flush_inode(&mut self, agino: u32, into: &mut Sector)
+        ensures buffer { into.new.bytes ≡ flushed_bytes self.old agino into.old.bytes }
+        ensures inode { IsFlushedAt agino self.old self.new }
+    {
+        let Some(kept) = self.inodes.get_mut(&agino) else {
+            return;
+        };
+        if !kept.dirty {
+            return;
+        }
+        write_inode(&kept.inode, self.group, agino, &self.uuid, into);
+        kept.dirty = false;
+    }
+
+    /// Copies the dirty inodes of a cluster into its buffers, which are the sectors of its 32 inodes, and makes them clean. The
+    /// cluster of an inode is its number in the group divided by 32. It takes no memory.
+    pub fn flush_cluster(&mut self, cluster: u32, into: &mut [Sector])
+        requires cluster { cluster * CLUSTER_INODES < GROUP_NUMBERS }
+        requires buffers { length into.old ≡ CLUSTER_INODES }
+        ensures buffers { AreFlushed self.old cluster into.old into.new }
+        ensures inodes { IsFlushed cluster self.old self.new }
+        // Where the buffers spelled what was clean, they are the sectors of the cluster's rows.
+        ensures rows { AreUpToDate self.old cluster into.old → AreRows self.old cluster into.old into.new }
+    {
+        for place in 0..CLUSTER_INODES {
+            self.flush_inode(cluster * CLUSTER_INODES + place, &mut into[place as usize]);
+        }
+    }
+
+    /// Takes an inode out of core, which has to be clean: what was changed would be lost. It takes no memory.
+    pub fn reclaim(&mut self, agino: u32)
+        requires { IsClean self.old agino }
+        ensures gone { self.new ≡ without_inode agino self.old self.new.spare }
+        ensures spare { self.old.spare ≤ self.new.spare }
+    {
+        let _ = self.inodes.remove(&agino);
+    }
+}
