@@ -8,3 +8,6 @@ mod inode;
 
 pub use cache::{InodeCache, begin_cache};
 pub use inode::{CLUSTER_INODES, Incore, Kept, write_inode};
+
+#[cfg(test)]
+mod tests;
