@@ -1,3 +1,4 @@
 pub mod Inodes
 pub mod Maps
 pub mod Flushes
+pub mod Bits

@@ -5,9 +5,11 @@
 
 mod cache;
 mod inode;
+mod number_set;
 
 pub use cache::{InodeCache, begin_cache};
 pub use inode::{CLUSTER_INODES, Incore, Kept, write_inode};
+pub use number_set::NumberSet;
 
 #[cfg(test)]
 mod tests;

@@ -82,3 +82,21 @@ fn a_changed_inode_is_flushed(rt: HostRuntime) -> Result<(), Fail> {
     assert!(rt; !cache.has(192));
     Ok(())
 }
+
+#[test]
+fn numbers_are_found_in_order(rt: HostRuntime) -> Result<(), Fail> {
+    let mut set = NumberSet::new(rt.alloc())?;
+    assert_eq!(rt; set.first_from(0), None);
+    for number in [192, 131_071, 255, 193] {
+        set.insert(number);
+    }
+    assert_eq!(rt; set.first_from(0), Some(192));
+    assert_eq!(rt; set.first_from(193), Some(193));
+    assert_eq!(rt; set.first_from(194), Some(255));
+    assert_eq!(rt; set.first_from(256), Some(131_071));
+    set.remove(193);
+    assert!(rt; !set.contains(193));
+    assert_eq!(rt; set.first_from(193), Some(255));
+    assert_eq!(rt; set.first_from(131_072), None);
+    Ok(())
+}
