@@ -24,8 +24,8 @@ fn begins_as_number(text: &[u8]) -> bool
     }
 }
 
-/// The number that this text is the decimal of.
-fn read_number(text: &str) -> Option<u64>
+/// Reads a number of 64 bits in decimal without leading zeros.
+pub fn read_number(text: &str) -> Option<u64>
     ensures found { IfSome result (λ n. text.now ≡ decimal n) }
     ensures only { (n : ℕ) → n < 2 ^ 64 → text.now ≡ decimal n → result ≡ Some n }
 {

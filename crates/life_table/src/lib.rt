@@ -9,7 +9,7 @@ mod list;
 mod table;
 mod types;
 
-pub use handle::{print_handle, read_handle};
+pub use handle::{print_handle, read_handle, read_number};
 pub use key::{Handle, Key};
 pub use laws::{
     blocks_come_back_once, changes_tell_the_table, each_call_has_one_reply, holders_have_rows,
