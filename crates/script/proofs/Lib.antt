@@ -1,0 +1,4 @@
+pub mod Cuts
+pub mod Ascii
+pub mod Judged
+pub mod Progress

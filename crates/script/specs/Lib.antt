@@ -1,0 +1,8 @@
+pub mod Words
+pub mod Pieces
+pub mod Commands
+pub mod Rules
+pub mod Spelling
+pub mod Reading
+pub mod Scripts
+pub mod Texts
