@@ -1,5 +1,5 @@
 -- How commands are written.
-use Rattle.std.specs.Prelude.{◌≡◌, ◌<◌, ◌≤◌, ℕ, List, [], ◌∷◌, codes, IsTrue, ◌⊎◌}
+use Rattle.std.specs.Prelude.{◌≡◌, ◌<◌, ◌≤◌, ◌^◌, ℕ, List, [], ◌∷◌, codes, IsTrue, ◌⊎◌}
 use Rattle.std.specs.Fmt.{decimal}
 use Rattle.life_limits.specs.declared.TheConstants.{MAX_ACTORS, MAX_BLOCKS}
 use Rattle.life_table.specs.Handles.{handle_text, IsHandle}
@@ -38,10 +38,10 @@ Spells words (command.Step actor) = words ≡ codes "step" ∷ letter_of actor �
 Spells words (command.Finish actor) = words ≡ codes "finish" ∷ letter_of actor ∷ []
 Spells words (command.Whole actor call) = (words ≡ letter_of actor ∷ spoken_words call) ⊎ ((actor ≡ 0) × (words ≡ spoken_words call))
 
--- a call's name is a name, and the blocks that it grows or cuts are at least one and at most a group's
+-- a call's name is a name, its group a number of 32 bits, and the blocks that it grows or cuts are at least one and at most a group's
 abbrev pub IsSpoken : Spoken → Type 0
-IsSpoken (spoken.Create group name) = IsTrue (is_name name)
-IsSpoken (spoken.Tmpfile group name) = IsTrue (is_name name)
+IsSpoken (spoken.Create group name) = (group < 2 ^ 32) × IsTrue (is_name name)
+IsSpoken (spoken.Tmpfile group name) = (group < 2 ^ 32) × IsTrue (is_name name)
 IsSpoken (spoken.Open name) = IsTrue (is_name name)
 IsSpoken (spoken.Close name) = IsTrue (is_name name)
 IsSpoken (spoken.Link name) = IsTrue (is_name name)
@@ -52,15 +52,15 @@ IsSpoken (spoken.Stat name) = IsTrue (is_name name)
 IsSpoken spoken.Sync = Unit {0}
 IsSpoken spoken.Home = Unit {0}
 IsSpoken spoken.Gc = Unit {0}
-IsSpoken (spoken.Flush group) = Unit {0}
-IsSpoken (spoken.Reclaim group) = Unit {0}
+IsSpoken (spoken.Flush group) = group < 2 ^ 32
+IsSpoken (spoken.Reclaim group) = group < 2 ^ 32
 
 -- the same of a command, whose actor has a letter
 abbrev pub IsCommand : Command → Type 0
 IsCommand command.Mount = Unit {0}
 IsCommand command.Unmount = Unit {0}
 IsCommand command.Stop = Unit {0}
-IsCommand (command.Arm count first) = 1 ≤ count
+IsCommand (command.Arm count first) = (1 ≤ count) × (count < 2 ^ 32) × (first < 2 ^ 32)
 IsCommand (command.Bind name handle) = IsTrue (is_name name) × IsHandle handle
 IsCommand (command.Begin actor call) = (actor < MAX_ACTORS) × IsSpoken call
 IsCommand (command.Step actor) = actor < MAX_ACTORS

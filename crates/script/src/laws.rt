@@ -1,6 +1,8 @@
 // Laws of the grammar.
 
 ghost use Rattle.std.specs.Prelude.{◌≡◌, List, ℕ};
+ghost use Rattle.script.specs.declared.types.Command.{Command};
+ghost use Rattle.script.specs.Spelling.{IsCommand, Spells};
 ghost use Rattle.script.specs.Scripts.{asking_lines, IsFirstFault, IsInGrammar};
 
 /// A script that is in the grammar has no first line outside it, and no script has two.
@@ -8,4 +10,9 @@ pub fn one_first_fault()
     ensures none { (bytes : List ℕ) (line rule : ℕ) → IsInGrammar bytes → IsFirstFault (asking_lines bytes) line rule → ⊥ }
     ensures one { (bytes : List ℕ) (line rule other named : ℕ) → IsFirstFault (asking_lines bytes) line rule
         → IsFirstFault (asking_lines bytes) other named → (line ≡ other) × (rule ≡ named) }
+{}
+
+/// No words are two commands, so what a line is read as is the one command that it spells.
+pub fn one_command()
+    ensures { (words : List (List ℕ)) (a b : Command) → IsCommand a → IsCommand b → Spells words a → Spells words b → a ≡ b }
 {}

@@ -58,7 +58,7 @@ mod words;
 
 pub use answers::{GroupStory, LineReply, Said};
 pub use fault::{Rule, ScriptFault};
-pub use laws::one_first_fault;
+pub use laws::{one_command, one_first_fault};
 pub use name::Name;
 pub use parser::parse;
 pub use printer::{no_memory_line, print, print_run, print_status};

@@ -1,6 +1,6 @@
 // One line.
 
-ghost use Rattle.std.specs.Prelude.{◌≡◌, ◌≢◌, ◌<◌, ◌≤◌, ◌∷◌, [], ℕ, IfSome, IsTrue, MatchOption, MatchResult, length};
+ghost use Rattle.std.specs.Prelude.{◌≡◌, ◌^◌, ◌≢◌, ◌<◌, ◌≤◌, ◌∷◌, [], ℕ, IfSome, IsTrue, MatchOption, MatchResult, length};
 ghost use Rattle.std.specs.Fmt.{decimal};
 ghost use Rattle.std.specs.List.{list_any};
 ghost use Rattle.life_limits.specs.declared.TheConstants.{MAX_ACTORS, MAX_BLOCKS};
@@ -70,7 +70,7 @@ fn read_name(alloc: Global, word: &[u8]) -> Result<Name, LineFault>
 }
 
 fn read_group(word: &[u8]) -> Result<u32, LineFault>
-    ensures { MatchResult result (λ group. word.now ≡ decimal group) (IsWordFault kind.group word.now) }
+    ensures { MatchResult result (λ group. (group < 2 ^ 32) × (word.now ≡ decimal group)) (IsWordFault kind.group word.now) }
 {
     read_number(word, 0, u32::MAX).ok_or(WORD_FORM)
 }
@@ -98,7 +98,7 @@ fn one_name(alloc: Global, words: Pieces) -> Result<Name, LineFault>
 }
 
 fn one_group(words: Pieces) -> Result<u32, LineFault>
-    ensures { MatchResult result (λ group. (words.entry ≡ decimal group ∷ []) × FitAll (kind.group ∷ []) words.entry)
+    ensures { MatchResult result (λ group. (words.entry ≡ decimal group ∷ []) × (group < 2 ^ 32) × FitAll (kind.group ∷ []) words.entry)
         (AreWordsFault (kind.group ∷ []) words.entry) }
 {
     let word = one_word(words).ok_or(WORD_COUNT)?;
@@ -106,7 +106,7 @@ fn one_group(words: Pieces) -> Result<u32, LineFault>
 }
 
 fn group_and_name(alloc: Global, words: Pieces) -> Result<(u32, Name), LineFault>
-    ensures { MatchResult result (λ both. (words.entry ≡ decimal both.0 ∷ both.1 ∷ []) × IsTrue (is_name both.1) × FitAll (kind.group ∷ kind.name ∷ []) words.entry)
+    ensures { MatchResult result (λ both. (words.entry ≡ decimal both.0 ∷ both.1 ∷ []) × (both.0 < 2 ^ 32) × IsTrue (is_name both.1) × FitAll (kind.group ∷ kind.name ∷ []) words.entry)
         (AreWordsFault (kind.group ∷ kind.name ∷ []) words.entry) }
 {
     let (group, name) = two_words(words).ok_or(WORD_COUNT)?;
