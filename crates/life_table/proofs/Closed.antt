@@ -18,7 +18,7 @@ use Rattle.life_table.specs.declared.table.Chunk.{Chunk}
 use Rattle.life_table.specs.declared.table.Table.{Table}
 use Rattle.life_table.specs.Table.{Group, group_number, group_of, with_group, inode_of, row_in_life, row_of, with_row, in_use, with_inode, map_chunk, map_group}
 use Rattle.life_table.specs.Space.{times, chunk_blocks, row_blocks, inode_blocks, used, is_free_block, free_blocks, begins_run, chunk_place, new_chunk, insert_chunk, is_free, keys_from, free_keys, lowest_key, with_chunk, prepared}
-use Rattle.life_table.specs.Legal.{free_of, prepare, KeyReplies, Permits, made_row, row_after, with_changed, after_call}
+use Rattle.life_table.specs.Legal.{free_of, prepare, made_row, row_after, with_changed, after_call}
 use Rattle.life_table.specs.History.{Happens, Leads, changed, is_change, changes, after_event, after_entries, closed_row, closed_inode, closed, After}
 use Rattle.life_table.proofs.Mapped.{group_of-map, inode_of-map, with_group-map, with_inode-map, with_inode-itself, map_inodes-twice}
 use Rattle.life_table.proofs.Moves.{HasRow-from}
@@ -198,7 +198,7 @@ call_changes t (call.Grow key count) reply.Done is =
 call_changes t (call.Cut key count) reply.Done is = on_row t key (call.Cut key count) (λ row. refl)
 call_changes t _ _ is = absurd (false≢true is)
 
-event_changes : (t : Table) (event : Event) → is_change event ≡ true → closed (after_event t event) ≡ closed (after_event (closed t) event)
+pub event_changes : (t : Table) (event : Event) → is_change event ≡ true → closed (after_event t event) ≡ closed (after_event (closed t) event)
 event_changes t (Called called answer) is = call_changes t called answer is
 event_changes t (Freed key) is =
     let gone : Inode = record { generation = key.generation + 1; row = None } in
@@ -213,33 +213,36 @@ same_row t key row opens at =
     with_inode-map closed_inode t key.number (in_use key (record { links = row.links; blocks = row.blocks; opens = opens }))
     ∙ with_inode-itself (closed t) key.number shut (inode_of-map closed_inode t key.number ∙ ap (option_map closed_inode) has.at ∙ ap Some is)
 
-opened_row : (t : Table) (key : Key) (o : Option Row) → row_of t key ≡ o → KeyReplies t o (call.OpenKey key) reply.Done → closed (with_changed t key o (call.OpenKey key)) ≡ closed t
-opened_row t key None at permits = refl
-opened_row t key (Some row) at permits = same_row t key row (row.opens + 1) at
+opened_row : (t : Table) (key : Key) (o : Option Row) → row_of t key ≡ o → closed (with_changed t key o (call.OpenKey key)) ≡ closed t
+opened_row t key None at = refl
+opened_row t key (Some row) at = same_row t key row (row.opens + 1) at
 
-closed_one : (t : Table) (key : Key) (o : Option Row) → row_of t key ≡ o → KeyReplies t o (call.CloseKey key) reply.Done → closed (with_changed t key o (call.CloseKey key)) ≡ closed t
-closed_one t key None at permits = refl
-closed_one t key (Some row) at permits = same_row t key row (row.opens - 1) at
+closed_one : (t : Table) (key : Key) (o : Option Row) → row_of t key ≡ o → closed (with_changed t key o (call.CloseKey key)) ≡ closed t
+closed_one t key None at = refl
+closed_one t key (Some row) at = same_row t key row (row.opens - 1) at
 
-call_keeps : (t : Table) (called : Call) (answer : Reply) → Permits t called answer → changed called answer ≡ false → closed (after_call t called answer) ≡ closed t
-call_keeps t (call.OpenKey key) reply.Done permits is = opened_row t key (row_of t key) refl permits
-call_keeps t (call.CloseKey key) reply.Done permits is = closed_one t key (row_of t key) refl permits
-call_keeps t (call.Create g) (reply.Made key) permits is = absurd (true≢false is)
-call_keeps t (call.Tmpfile g) (reply.Made key) permits is = absurd (true≢false is)
-call_keeps t (call.Link key) reply.Done permits is = absurd (true≢false is)
-call_keeps t (call.Unlink key) reply.Done permits is = absurd (true≢false is)
-call_keeps t (call.Grow key count) reply.Done permits is = absurd (true≢false is)
-call_keeps t (call.Cut key count) reply.Done permits is = absurd (true≢false is)
-call_keeps t _ _ permits is = refl
+call_keeps : (t : Table) (called : Call) (answer : Reply) → changed called answer ≡ false → closed (after_call t called answer) ≡ closed t
+call_keeps t (call.OpenKey key) reply.Done is = opened_row t key (row_of t key) refl
+call_keeps t (call.CloseKey key) reply.Done is = closed_one t key (row_of t key) refl
+call_keeps t (call.Create g) (reply.Made key) is = absurd (true≢false is)
+call_keeps t (call.Tmpfile g) (reply.Made key) is = absurd (true≢false is)
+call_keeps t (call.Link key) reply.Done is = absurd (true≢false is)
+call_keeps t (call.Unlink key) reply.Done is = absurd (true≢false is)
+call_keeps t (call.Grow key count) reply.Done is = absurd (true≢false is)
+call_keeps t (call.Cut key count) reply.Done is = absurd (true≢false is)
+call_keeps t _ _ is = refl
 
 -- an event leads to the table after it
 happens_is : (t : Table) (event : Event) (u : Table) → Happens t event u → u ≡ after_event t event
 happens_is t (Called called answer) u happens = happens.1
 happens_is t (Freed key) u happens = happens.1
 
+pub after_keeps : (t : Table) (event : Event) → is_change event ≡ false → closed (after_event t event) ≡ closed t
+after_keeps t (Called called answer) is = call_keeps t called answer is
+after_keeps t (Freed key) is = absurd (true≢false is)
+
 event_keeps : (t : Table) (event : Event) (u : Table) → Happens t event u → is_change event ≡ false → closed u ≡ closed t
-event_keeps t (Called called answer) u happens is = ap closed happens.1 ∙ call_keeps t called answer happens.0 is
-event_keeps t (Freed key) u happens is = absurd (true≢false is)
+event_keeps t event u happens is = ap closed (happens_is t event u happens) ∙ after_keeps t event is
 
 -- the changes alone lead from a table that differs in holds alone to one that differs in holds alone
 changes_lead : (t other : Table) (entries : List Entry) (u : Table) → Leads t entries u → closed t ≡ closed other → closed (after_entries other (changes entries)) ≡ closed u

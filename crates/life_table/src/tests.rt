@@ -49,6 +49,7 @@ fn lists_keep_their_items(rt: HostRuntime) -> Result<(), Fail> {
     holders_have_rows();
     blocks_come_back_once();
     changes_tell_the_table();
+    changes_pass_over_holds();
     recovery_frees_once();
     rows_are_within_limits();
     Ok(())
