@@ -1,4 +1,4 @@
-use Rattle.std.proofs.Common.{◌≡◌, ◌≢◌, ◌<◌, ℕ, List, [], ◌∷◌, replicate, refl, lit<, arith, Contains}
+use Rattle.std.proofs.Common.{ℕ, List, [], ◌∷◌, replicate, refl, lit<, arith}
 use Rattle.agi_buckets.specs.Buckets.{put_first, take_out}
 use Rattle.agi_buckets.proofs.Lists.{contains_none, not_first}
 use Rattle.agi_buckets.proofs.tests.an_inode_is_put_first_and_taken_out_of_the_middle.Goals as goal

@@ -1,4 +1,4 @@
-use Rattle.std.proofs.Common.{[], ◌∷◌, ℕ, arith, Contains, refl, inl, inr}
+use Rattle.std.proofs.Common.{[], ◌∷◌, arith, refl}
 use Rattle.agi_buckets.proofs.Lists.{contains_none, not_first}
 use Rattle.agi_buckets.proofs.Linked.{none_linked}
 use Rattle.agi_buckets.proofs.tests.Memory.new.Goals as goal

@@ -1,5 +1,5 @@
 use Rattle.std.proofs.lemmas.Grind.{common_steps}
-use Rattle.std.proofs.Common.{arith, ◌<◌, ◌∷◌, [], ℕ, lit<, refl, get_or-set_same, get_or-set_other}
+use Rattle.std.proofs.Common.{arith, ◌<◌, ◌∷◌, [], ℕ, lit<, refl, get_or-set_other}
 use Rattle.agi_buckets.proofs.Lists.{all_of}
 use Rattle.agi_buckets.proofs.tests.MemoryNexts.set_next.Goals as goal
 
