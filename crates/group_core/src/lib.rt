@@ -1,0 +1,13 @@
+//! A group behind its lock: its state, and the history that led to it.
+#![tactic(auto)]
+
+mod group;
+mod laws;
+mod table;
+
+pub use group::{Group, begin_group};
+pub use laws::histories_lead_to_one_table;
+pub use table::{GroupTable, Staged};
+
+#[cfg(test)]
+mod tests;
