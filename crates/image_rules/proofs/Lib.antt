@@ -1,0 +1,5 @@
+pub mod Heading
+pub mod Paging
+pub mod Blocking
+pub mod Living
+pub mod Outcomes

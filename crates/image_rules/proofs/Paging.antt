@@ -1,0 +1,63 @@
+-- What the sectors of a page say of a group.
+use Rattle.std.proofs.Common.{◌≡◌, ◌<◌, ◌+◌, ◌*◌, ◌++◌, ℕ, zero, suc, List, [], ◌∷◌, length, refl, ap, sym, subst, ◌∙◌, arith, All, add-suc, add-zero}
+use Rattle.std.specs.List.{range_with_len, flat_map}
+use Rattle.std.proofs.lemmas.List.Concat.{flat_map-cons}
+use Rattle.life_bytes.specs.declared.sector.Sector.{Sector}
+use Rattle.life_bytes.specs.SectorBytes.{bytes_of}
+use Rattle.geometry.specs.declared.shape.Geometry.{Geometry}
+use Rattle.inobt_leaf.specs.declared.chunk.ChunkRec.{ChunkRec}
+use Rattle.inobt_leaf.specs.Chunks.{IsLeaf}
+use Rattle.inobt_leaf.specs.Pages.{spelling, chunks_in}
+use Rattle.inobt_leaf.specs.PageLaws.{PagesAreRead}
+use Rattle.sound_image.specs.Places.{bytes_at, bytes_from, sector_in}
+use Rattle.sound_image.specs.Reading.{header_of, page_sector, records_of}
+use Rattle.sound_image.specs.Rules.{IsPageRight, IsInData}
+use Rattle.image_rules.specs.Shown.{Shows}
+
+-- sectors as bytes, one by one
+joined : (image : List Sector) (sectors : List Sector) (s : ℕ) → ((k : ℕ) → k < length sectors → bytes_at image (s + k) ≡ bytes_at sectors k)
+    → flat_map (bytes_at image) (range_with_len s (length sectors)) ≡ bytes_of sectors
+unfolding bytes_at
+joined image [] s each = refl
+joined image (x ∷ xs) s each =
+    let first : bytes_at image s ≡ x.bytes = ap (bytes_at image) (sym (add-zero s)) ∙ each 0 (omega arith) in
+    ap (λ (b : List ℕ). b ++ flat_map (bytes_at image) (range_with_len (s + 1) (length xs))) first
+    ∙ ap (λ (b : List ℕ). x.bytes ++ b) (joined image xs (s + 1) (λ k low. let e : s + 1 + k ≡ s + suc k = omega arith in ap (bytes_at image) e ∙ each (suc k) (omega arith)))
+
+pub shown_bytes : (image : List Sector) (s n : ℕ) (sectors : List Sector) → Shows image s sectors → length sectors ≡ n → bytes_from image s n ≡ bytes_of sectors
+unfolding bytes_from
+shown_bytes image s n sectors shows long = ap (λ (k : ℕ). flat_map (bytes_at image) (range_with_len s k)) (sym long) ∙ joined image sectors s shows.each
+
+-- the records that a page with the leaf's bytes gives are the leaf's
+pub records_read : (l : PagesAreRead) (g : Geometry) (image : List Sector) (group at : ℕ) (bytes : List ℕ) (leaf : List ChunkRec) → bytes_from image (page_sector g image group) 8 ≡ bytes
+    → length g.uuid ≡ 16 → IsLeaf leaf → bytes ≡ spelling leaf group at g.uuid → records_of g image group ≡ leaf
+unfolding records_of
+records_read l g image group at bytes leaf shown wide is spelled = ap chunks_in (shown ∙ spelled) ∙ l.read leaf group at g.uuid is wide
+
+pub page_right : (l : PagesAreRead) (g : Geometry) (image : List Sector) (group : ℕ) (bytes : List ℕ) (leaf : List ChunkRec) → bytes_from image (page_sector g image group) 8 ≡ bytes
+    → length g.uuid ≡ 16 → IsLeaf leaf → bytes ≡ spelling leaf group (page_sector g image group) g.uuid → All (IsInData g.blocks) leaf → IsPageRight g image group × records_of g image group ≡ leaf
+page_right l g image group bytes leaf shown wide is spelled within =
+    let e : records_of g image group ≡ leaf = records_read l g image group (page_sector g image group) bytes leaf shown wide is spelled in (
+      record {
+        leaf = subst IsLeaf (sym e) is;
+        spelled = shown ∙ spelled ∙ ap (λ (cs : List ChunkRec). spelling cs group (page_sector g image group) g.uuid) (sym e);
+        in_data = subst (All (IsInData g.blocks)) (sym e) within;
+      },
+      e,
+    )
+
+pub page_place : (g : Geometry) (image : List Sector) (group root : ℕ) → (header_of g image group).root ≡ root → page_sector g image group ≡ group * (g.blocks * 8) + 8 * root
+unfolding page_sector sector_in
+page_place g image group root e = ap (λ (r : ℕ). group * (g.blocks * 8) + 8 * r) e
+
+-- a right page is the page of the group's records
+pub page_spelled : (g : Geometry) (image : List Sector) (group at : ℕ) (bytes : List ℕ) → bytes_from image (page_sector g image group) 8 ≡ bytes → page_sector g image group ≡ at
+    → IsPageRight g image group → bytes ≡ spelling (records_of g image group) group at g.uuid
+page_spelled g image group at bytes shown place right =
+    sym shown ∙ right.spelled ∙ ap (λ (s : ℕ). spelling (records_of g image group) group s g.uuid) place
+
+-- a leaf that is read where its page is right has its chunks among the data blocks
+pub read_in_data : (l : PagesAreRead) (g : Geometry) (image : List Sector) (group at : ℕ) (bytes : List ℕ) (leaf : List ChunkRec) → bytes_from image (page_sector g image group) 8 ≡ bytes
+    → length g.uuid ≡ 16 → IsLeaf leaf → bytes ≡ spelling leaf group at g.uuid → IsPageRight g image group → All (IsInData g.blocks) leaf
+read_in_data l g image group at bytes leaf shown wide is spelled right =
+    subst (All (IsInData g.blocks)) (records_read l g image group at bytes leaf shown wide is spelled) right.in_data

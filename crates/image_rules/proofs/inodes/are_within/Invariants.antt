@@ -1,0 +1,7 @@
+use Rattle.std.proofs.Common.{◌<◌, ℕ, All, take}
+use Rattle.std.specs.List.{flat_map}
+use Rattle.extent_fork.specs.Runs.{blocks_of}
+use Rattle.image_rules.proofs.inodes.are_within.Given as goal
+
+abbrev pub invariant-loop-run : goal.invariant-loop-run
+invariant-loop-run l = All (λ (block : ℕ). block < l.blocks) (flat_map blocks_of (take l.run-index l.runs))
