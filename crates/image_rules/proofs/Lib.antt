@@ -3,3 +3,9 @@ pub mod Paging
 pub mod Blocking
 pub mod Living
 pub mod Outcomes
+pub mod Sights
+pub mod Firsts
+pub mod Takes
+pub mod Zeros
+pub mod Gathering
+pub mod Walking

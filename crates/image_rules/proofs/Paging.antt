@@ -11,8 +11,10 @@ use Rattle.inobt_leaf.specs.Pages.{spelling, chunks_in}
 use Rattle.inobt_leaf.specs.PageLaws.{PagesAreRead}
 use Rattle.sound_image.specs.Places.{bytes_at, bytes_from, sector_in}
 use Rattle.sound_image.specs.Reading.{header_of, page_sector, records_of}
-use Rattle.sound_image.specs.Rules.{IsPageRight, IsInData}
-use Rattle.image_rules.specs.Shown.{Shows}
+use Rattle.sound_image.specs.Rules.{IsPageRight, AreCountsRight, IsInData}
+use Rattle.std.specs.Prelude.{sum_by}
+use Rattle.ag_header.specs.declared.agi.Agi.{Agi}
+use Rattle.image_rules.specs.Shown.{Shows, Counts}
 
 -- sectors as bytes, one by one
 joined : (image : List Sector) (sectors : List Sector) (s : ℕ) → ((k : ℕ) → k < length sectors → bytes_at image (s + k) ≡ bytes_at sectors k)
@@ -61,3 +63,20 @@ pub read_in_data : (l : PagesAreRead) (g : Geometry) (image : List Sector) (grou
     → length g.uuid ≡ 16 → IsLeaf leaf → bytes ≡ spelling leaf group at g.uuid → IsPageRight g image group → All (IsInData g.blocks) leaf
 read_in_data l g image group at bytes leaf shown wide is spelled right =
     subst (All (IsInData g.blocks)) (records_read l g image group at bytes leaf shown wide is spelled) right.in_data
+
+-- where the page stands that a header names
+pub page_at : (g : Geometry) (image : List Sector) (group : ℕ) (agi : Agi) → header_of g image group ≡ agi → page_sector g image group ≡ sector_in g group (8 * agi.root)
+unfolding page_sector
+page_at g image group agi e = ap (λ (a : Agi). sector_in g group (8 * a.root)) e
+
+pub counts_to : (g : Geometry) (image : List Sector) (group : ℕ) (agi : Agi) (leaf : List ChunkRec) → header_of g image group ≡ agi → records_of g image group ≡ leaf → AreCountsRight g image group → Counts agi leaf
+counts_to g image group agi leaf header records right = record {
+  count = ap (λ (a : Agi). a.count) (sym header) ∙ right.count ∙ ap (λ (cs : List ChunkRec). 64 * length cs) records;
+  free = ap (λ (a : Agi). a.free) (sym header) ∙ right.free ∙ ap (λ (cs : List ChunkRec). sum_by (λ (chunk : ChunkRec). chunk.free) cs) records;
+}
+
+pub counts_from : (g : Geometry) (image : List Sector) (group : ℕ) (agi : Agi) (leaf : List ChunkRec) → header_of g image group ≡ agi → records_of g image group ≡ leaf → Counts agi leaf → AreCountsRight g image group
+counts_from g image group agi leaf header records counts = record {
+  count = ap (λ (a : Agi). a.count) header ∙ counts.count ∙ ap (λ (cs : List ChunkRec). 64 * length cs) (sym records);
+  free = ap (λ (a : Agi). a.free) header ∙ counts.free ∙ ap (λ (cs : List ChunkRec). sum_by (λ (chunk : ChunkRec). chunk.free) cs) (sym records);
+}

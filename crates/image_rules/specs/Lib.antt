@@ -1,1 +1,4 @@
 pub mod Shown
+pub mod Faults
+pub mod Taking
+pub mod Gathered

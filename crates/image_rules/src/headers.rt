@@ -2,7 +2,7 @@
 
 ghost use Rattle.std.specs.Prelude.{◌≡◌, ◌<◌, List, IfSome, IfNone};
 ghost use Rattle.life_bytes.specs.declared.sector.Sector.{Sector};
-ghost use Rattle.geometry.specs.Shape.{IsGeometry};
+ghost use Rattle.ag_header.specs.Headers.{IsAgi};
 ghost use Rattle.sound_image.specs.Places.{bytes_at, sector_in, header_place};
 ghost use Rattle.sound_image.specs.Reading.{header_of};
 ghost use Rattle.sound_image.specs.Rules.{IsHeaderRight};
@@ -15,6 +15,7 @@ use life_bytes::Sector;
 pub fn right_header(g: &Geometry, group: u32, sector: &Sector) -> Option<Agi>
     ensures right { (image : List Sector) → bytes_at image (sector_in g.now group header_place) ≡ sector.now.bytes
         → IfSome result (λ agi. IsHeaderRight g.now image group × (header_of g.now image group ≡ agi)) }
+    ensures allowed { IfSome result IsAgi }
     ensures wrong { (image : List Sector) → bytes_at image (sector_in g.now group header_place) ≡ sector.now.bytes
         → IfNone result (¬ IsHeaderRight g.now image group) }
 {

@@ -1,10 +1,16 @@
 //! Whether the groups of an image are sound, decided rule by rule.
 #![tactic(auto)]
 
+mod fault;
+mod found;
+mod groups;
 mod headers;
 mod inodes;
 mod pages;
+mod reading;
+mod taken;
 
+pub use fault::CheckFault;
 pub use headers::right_header;
 pub use inodes::{right_blocks, right_core};
 pub use pages::{has_counts, right_leaf};

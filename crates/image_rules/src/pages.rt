@@ -56,6 +56,7 @@ pub fn right_leaf(
         → IfOk result (λ leaf. IsPageRight g.now image group × (records_of g.now image group ≡ leaf)) }
     ensures wrong { (image : List Sector) → (header_of g.now image group).root ≡ root → Shows image (page_sector g.now image group) page.now
         → result ≡ Err Malformed → ¬ IsPageRight g.now image group }
+    ensures in_data { IfOk result (λ leaf. All (IsInData g.now.blocks) leaf) }
 {
     spelled_pages_are_read();
     let at = u64::from(group * (g.blocks * BLOCK_SECTORS) + BLOCK_SECTORS * root);

@@ -1,0 +1,34 @@
+-- What an answer says of a group.
+use Rattle.std.specs.Prelude.{◌≡◌, ◌<◌, ◌≤◌, ℕ, List, Result, Ok, Err, ⊤}
+use Rattle.life_bytes.specs.declared.sector.Sector.{Sector}
+use Rattle.life_ports.specs.Faults.{Rose}
+use Rattle.geometry.specs.declared.shape.Geometry.{Geometry}
+use Rattle.sound_image.specs.Damage.{Rule, number_of, HoldsIn, BreaksIn}
+use Rattle.image_rules.specs.declared.fault.CheckFault.{CheckFault}
+use Rattle.image_rules.specs.declared.fault.CheckFault.TheVariants.{Damaged, ReadFault, NoMemory}
+
+-- the first damage of one group: the least rule that is broken in it, by its number, and the least sector at which it is
+pub record IsFirstIn (g : Geometry) (image : List Sector) (group number s : ℕ) : Type 0 where
+  pub rule : Rule
+  pub numbered : number_of rule ≡ number
+  pub before : (other : Rule) → number_of other < number → HoldsIn g image other group
+  pub broken : BreaksIn g image rule group s
+  pub least : (other : ℕ) → BreaksIn g image rule group other → s ≤ other
+
+-- damage is the first of the group; other faults say nothing of it
+abbrev pub FaultIn : Geometry → List Sector → ℕ → CheckFault → Type 0
+FaultIn g image group (Damaged number s) = IsFirstIn g image group number s
+FaultIn g image group ReadFault = ⊤
+FaultIn g image group NoMemory = ⊤
+
+-- no damage: a read failed, which the count of faults tells, or memory lacked
+abbrev pub IsOutside : ℕ → ℕ → CheckFault → Type 0
+IsOutside before now (Damaged number s) = ⊥
+IsOutside before now ReadFault = Rose before now
+IsOutside before now NoMemory = ⊤
+
+-- a read fault comes only where the count of faults rose
+abbrev pub IsCaused : ℕ → ℕ → CheckFault → Type 0
+IsCaused before now (Damaged number s) = ⊤
+IsCaused before now ReadFault = Rose before now
+IsCaused before now NoMemory = ⊤
