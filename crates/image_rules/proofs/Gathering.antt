@@ -28,7 +28,7 @@ pub row_found : (g : Geometry) (image : List Sector) (group agino : ℕ) (inode 
 unfolding row_at
 row_found g image group agino inode e = ap (λ (o : Option Inode). option_and_then (λ (x : Inode). x.row) o) e
 
-row_none : (g : Geometry) (image : List Sector) (group agino : ℕ) → inode_at g image group agino ≡ None → row_at g image group agino ≡ None
+pub row_none : (g : Geometry) (image : List Sector) (group agino : ℕ) → inode_at g image group agino ≡ None → row_at g image group agino ≡ None
 unfolding row_at
 row_none g image group agino e = ap (λ (o : Option Inode). option_and_then (λ (x : Inode). x.row) o) e
 
@@ -208,7 +208,7 @@ Gathered-blocks g image group n s map _ fork shared _ inode row was found in_use
 
 -- ---- what the next inode is
 
-bytes_of_item : (sectors : List Sector) (i : ℕ) (d : Sector) → i < length sectors → bytes_at sectors i ≡ (get_or sectors i d).bytes
+pub bytes_of_item : (sectors : List Sector) (i : ℕ) (d : Sector) → i < length sectors → bytes_at sectors i ≡ (get_or sectors i d).bytes
 unfolding bytes_at
 bytes_of_item sectors i d low = ap (λ (x : Sector). x.bytes) (get_or_default sectors i zero_sector d low)
 

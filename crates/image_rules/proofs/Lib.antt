@@ -9,3 +9,4 @@ pub mod Takes
 pub mod Zeros
 pub mod Gathering
 pub mod Walking
+pub mod Bitmapping

@@ -59,7 +59,7 @@ below_bound chunks p (suc n) k leaf lt le low =
       | inr ge ↦ let e : p ≡ n = omega arith in let same = ap (λ (q : ℕ). (get_or chunks q blank).start) e in omega arith
     ]
 
-none_or_some : {A : Type 0} (o : Option A) → (o ≡ None) ⊎ ((x : A) × o ≡ Some x)
+pub none_or_some : {A : Type 0} (o : Option A) → (o ≡ None) ⊎ ((x : A) × o ≡ Some x)
 none_or_some None = inl refl
 none_or_some (Some x) = inr (x, refl)
 
@@ -71,7 +71,7 @@ abbrev pub Each : Geometry → List Sector → ℕ → Type 0
 Each g image group = (k i : ℕ) (chunk : ChunkRec) → IsLeaf (records_of g image group) → slice_get (records_of g image group) k ≡ Some chunk → i < 64 → inode_at g image group (chunk.start + i) ≡ Some (inode_read g image group chunk i)
 
 -- an inode of the group is one of a chunk, at its place
-at_place : (g : Geometry) (image : List Sector) (group agino : ℕ) (inode : Inode) (chunks : List ChunkRec) → records_of g image group ≡ chunks → IsOfChunk g image group agino inode
+pub at_place : (g : Geometry) (image : List Sector) (group agino : ℕ) (inode : Inode) (chunks : List ChunkRec) → records_of g image group ≡ chunks → IsOfChunk g image group agino inode
     → (p : ℕ) × (k : ℕ) × (p < length chunks) × (k < 64) × (agino ≡ (get_or chunks p blank).start + k)
 at_place g image group agino inode chunks same of =
     let held = ap (λ (cs : List ChunkRec). slice_get cs of.place) (sym same) ∙ of.held in

@@ -32,3 +32,7 @@ abbrev pub IsCaused : ℕ → ℕ → CheckFault → Type 0
 IsCaused before now (Damaged number s) = ⊤
 IsCaused before now ReadFault = Rose before now
 IsCaused before now NoMemory = ⊤
+
+-- all rules up to that of the bitmap hold in a group
+abbrev pub SpaceHolds : Geometry → List Sector → ℕ → Type 0
+SpaceHolds g image group = (rule : Rule) → number_of rule ≤ 10 → HoldsIn g image rule group

@@ -8,9 +8,9 @@ use Rattle.inobt_leaf.specs.declared.chunk.ChunkRec.{ChunkRec}
 use Rattle.life_table.specs.declared.types.Row.{Row}
 use Rattle.life_table.specs.declared.table.Inode.{Inode}
 use Rattle.life_table.specs.Space.{chunk_blocks, row_blocks}
-use Rattle.sound_image.specs.Places.{bytes_at, sector_in}
+use Rattle.sound_image.specs.Places.{bitmap_place, bitmap_sectors, bytes_at, sector_in}
 use Rattle.sound_image.specs.Reading.{core_of, blocks_in, group_read, inode_read, inode_at, row_at}
-use Rattle.sound_image.specs.Rules.{IsCoreRight, IsForkRight, AreBlocksAlone, IsIn}
+use Rattle.sound_image.specs.Rules.{IsCoreRight, IsForkRight, AreBlocksAlone, IsBitmapRight, IsIn}
 use Rattle.image_rules.specs.declared.fault.CheckFault.{CheckFault}
 use Rattle.image_rules.specs.declared.fault.CheckFault.TheVariants.{Damaged, ReadFault, NoMemory}
 
@@ -108,3 +108,16 @@ pub record AllGathered (g : Geometry) (image : List Sector) (group : ℕ) (map :
   pub bound : ℕ
   pub none : (agino : ℕ) → bound ≤ agino → inode_at g image group agino ≡ None
   pub gathered : Gathered g image group bound map fork shared
+
+-- a sector is the first of the bitmap that is wrong
+pub record FirstBitmap (g : Geometry) (image : List Sector) (group s : ℕ) : Type 0 where
+  pub place : ℕ
+  pub low : place < bitmap_sectors
+  pub at : s ≡ sector_in g group (bitmap_place + place)
+  pub before : (other : ℕ) → other < place → IsBitmapRight g image group other
+  pub wrong : ¬ IsBitmapRight g image group place
+
+abbrev pub BitmapFault : Geometry → List Sector → ℕ → CheckFault → Type 0
+BitmapFault g image group (Damaged number s) = (number ≡ 10) × FirstBitmap g image group s
+BitmapFault g image group ReadFault = ⊤
+BitmapFault g image group NoMemory = ⊤

@@ -21,7 +21,7 @@ use life_bytes::Sector;
 use std::alloc::{AllocFailed, Global};
 
 /// A sector has 512 bytes, as each value of its type.
-fn has_its_bytes(sector: &Sector)
+pub(crate) fn has_its_bytes(sector: &Sector)
     ensures { length sector.now.bytes ≡ SECTOR_BYTES }
 {
     let _bytes = &sector.bytes;

@@ -1,6 +1,7 @@
 //! Whether the groups of an image are sound, decided rule by rule.
 #![tactic(auto)]
 
+mod bitmaps;
 mod fault;
 mod found;
 mod groups;
@@ -8,9 +9,11 @@ mod headers;
 mod inodes;
 mod pages;
 mod reading;
+mod space;
 mod taken;
 
 pub use fault::CheckFault;
 pub use headers::right_header;
 pub use inodes::{right_blocks, right_core};
 pub use pages::{has_counts, right_leaf};
+pub use space::check_space;

@@ -1,0 +1,54 @@
+//! A group by the rules from that of its header up to that of its bitmap.
+
+ghost use Rattle.std.specs.Prelude.{◌≡◌, ◌≤◌, ◌<◌, ◌*◌, IsTrue, IfOk, IfErr};
+ghost use Rattle.geometry.specs.Places.{group_sectors};
+ghost use Rattle.geometry.specs.Shape.{IsGeometry};
+ghost use Rattle.sound_image.specs.Damage.{Rule, number_of, HoldsIn};
+ghost use Rattle.sound_image.specs.Reading.{header_of, records_of};
+ghost use Rattle.image_rules.specs.Faults.{FaultIn, IsCaused, SpaceHolds};
+
+use crate::bitmaps::check_bitmap;
+use crate::fault::{BLOCKS_RULE, CheckFault, FORK_RULE};
+use crate::groups::{check_header, check_inodes, check_leaf};
+use ag_header::Agi;
+use disk_model::View;
+use geometry::Geometry;
+use sound_image::chunks_are_read;
+use std::alloc::Global;
+
+/// Judges a group by its header, its inode btree, the cores and forks of its inodes, who has which block, and its bitmap: rules 5 to 10.
+/// The answer is its header, which counts its inodes. Each sector is read once; the two rules on unlinked lists are not judged.
+pub fn check_space<V: View>(
+    alloc: Global,
+    view: &mut V,
+    g: &Geometry,
+    group: u32,
+) -> Result<Agi, CheckFault>
+    requires shape { IsGeometry g.now }
+    requires inside { group < g.now.groups }
+    requires size { g.now.groups * group_sectors g.now ≤ V.sector_count view.old }
+    // Where the view tells, these rules hold where it is Ok, and damage is the first of the group.
+    ensures right { IsTrue V.told → IfOk result (λ agi. SpaceHolds g.now (V.image view.old) group × (header_of g.now (V.image view.old) group ≡ agi)) }
+    ensures damaged { IsTrue V.told → IfErr result (FaultIn g.now (V.image view.old) group) }
+    ensures read_fault { IfErr result (IsCaused (V.fault_count view.old) (V.fault_count view.new)) }
+    ensures only_read { V.only_read view.old view.new }
+{
+    chunks_are_read();
+    let agi = check_header(view, g, group)?;
+    let leaf = check_leaf(alloc, view, g, group, &agi)?;
+    let found = check_inodes(alloc, view, g, group, &leaf)?;
+    if let Some(sector) = found.fork {
+        return Err(CheckFault::Damaged {
+            rule: FORK_RULE,
+            sector,
+        });
+    }
+    if let Some(sector) = found.shared {
+        return Err(CheckFault::Damaged {
+            rule: BLOCKS_RULE,
+            sector,
+        });
+    }
+    check_bitmap(alloc, view, g, group, &found.map)?;
+    Ok(agi)
+}
