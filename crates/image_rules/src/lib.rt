@@ -17,3 +17,6 @@ pub use headers::right_header;
 pub use inodes::{right_blocks, right_core};
 pub use pages::{has_counts, right_leaf};
 pub use space::check_space;
+
+#[cfg(test)]
+mod tests;

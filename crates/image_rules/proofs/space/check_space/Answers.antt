@@ -1,4 +1,4 @@
-use Rattle.std.proofs.Common.{◌≡◌, ℕ, List, Option, None, Some, inl, inr, ap, sym, subst, ◌∙◌, arith}
+use Rattle.std.proofs.Common.{lit≤, ◌≡◌, ℕ, List, Option, None, Some, inl, inr, ap, sym, subst, ◌∙◌, arith}
 use Rattle.life_bytes.specs.declared.sector.Sector.{Sector}
 use Rattle.inobt_leaf.specs.Chunks.{IsLeaf}
 use Rattle.sound_image.specs.Damage.{Rule, HoldsIn, tree, bitmap}
@@ -43,7 +43,7 @@ returns-in-Some-clause-damaged g c told =
     let all = subst (λ (l : List Sector). AllGathered k l a.group f.map f.fork f.shared) same2 (c.in_ok-found.ensures.right told records2) in
     let cores = cores_hold k image a.group f.map f.fork f.shared all in
     let first : FirstFork k image a.group c.in-Some.sector = subst (ForksBelow k image a.group all.bound) c.in-Some.is all.gathered.forks in
-    fork_first k image a.group c.in-Some.sector header.0 leaf.0 cores first
+    (lit≤ tt, fork_first k image a.group c.in-Some.sector header.0 leaf.0 cores first)
 
 pub returns-in-Some-shared-clause-damaged : goal.returns-in-Some-shared-clause-damaged
 returns-in-Some-shared-clause-damaged g c told =
@@ -64,7 +64,7 @@ returns-in-Some-shared-clause-damaged g c told =
     let all1 = subst (λ (o : Option ℕ). AllGathered k image a.group f.map o f.shared) no_fork all in
     let forks = forks_hold k image a.group f.map f.shared all1 in
     let first : FirstShared k image a.group c.in-Some-shared.sector = subst (BlocksBelow k image a.group all.bound) c.in-Some-shared.is (all.gathered.blocks no_fork) in
-    blocks_first k image a.group c.in-Some-shared.sector header.0 leaf.0 cores forks first
+    (lit≤ tt, blocks_first k image a.group c.in-Some-shared.sector header.0 leaf.0 cores forks first)
 
 pub returns-in_err-check_bitmap-clause-damaged : goal.returns-in_err-check_bitmap-clause-damaged
 returns-in_err-check_bitmap-clause-damaged g c told =
