@@ -106,3 +106,7 @@ after_write arming = after_write_by arming.stopped arming.armed arming
 abbrev pub after_writes : ℕ → Arming → Arming
 after_writes zero arming = arming
 after_writes (suc writes) arming = after_writes writes (after_write arming)
+
+-- what some number of writes leaves
+abbrev pub IsAfterWrites : Arming → Arming → Type 0
+IsAfterWrites old new = (writes : ℕ) × (new ≡ after_writes writes old)

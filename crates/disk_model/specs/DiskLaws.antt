@@ -3,7 +3,7 @@ use Rattle.std.specs.Prelude.{◌≡◌, ◌≤◌, ◌⊎◌, ◌+◌, ◌++◌
 use Rattle.std.proofs.Common.{sym, ◌∙◌, ap, subst, inl, inr, zero-add, arith}
 use Rattle.std.proofs.lemmas.Grind.{common_steps}
 use Rattle.life_bytes.specs.declared.sector.Sector.{Sector}
-use Rattle.disk_model.specs.Disk.{Arming, Stopping, brought_nearer, after_write_by, after_write, after_writes, Cell, MayLeave, IsImage, as_read, settled, settled_as, flushed, HasOneImage, overwritten, maybe_left, written, IsAttempted, IsPartlyWritten}
+use Rattle.disk_model.specs.Disk.{Arming, Stopping, brought_nearer, after_write_by, after_write, after_writes, IsAfterWrites, Cell, MayLeave, IsImage, as_read, settled, settled_as, flushed, HasOneImage, overwritten, maybe_left, written, IsAttempted, IsPartlyWritten}
 
 -- Where a write may have been cut short: each sector of its range is the old one or its piece, and the others are the old ones.
 abbrev pub IsTorn : ℕ → List Sector → List Sector → List Sector → Type 0
@@ -304,6 +304,12 @@ after_writes-sum zero then_more arming = ap (λ n. after_writes n arming) (zero-
 after_writes-sum (suc first) then_more arming =
     let count : suc first + then_more ≡ suc (first + then_more) = omega arith in
     ap (λ n. after_writes n arming) count ∙ after_writes-sum first then_more (after_write arming)
+
+pub IsAfterWrites-none : (arming : Arming) → IsAfterWrites arming arming
+IsAfterWrites-none arming = (0, refl)
+
+pub IsAfterWrites-both : (first second third : Arming) → IsAfterWrites first second → IsAfterWrites second third → IsAfterWrites first third
+IsAfterWrites-both first second third one two = (one.0 + two.0, two.1 ∙ ap (after_writes two.0) one.1 ∙ sym (after_writes-sum one.0 two.0 first))
 
 stopped-after_write_by : (stopped : Bool) (armed : Option Stopping) (arming : Arming) → stopped ≡ true → after_write_by stopped armed arming ≡ arming
 stopped-after_write_by true armed arming is = refl

@@ -3,8 +3,8 @@ use Rattle.std.proofs.Common.{◌≡◌, ◌+◌, ℕ, zero, suc, Bool, List, re
 use Rattle.std.specs.Prelude.{IsTrue, Result, Ok, Err, OnOk, OnErr}
 use Rattle.life_bytes.specs.declared.sector.Sector.{Sector}
 use Rattle.disk_model.specs.Disk.{Arming, Cell, Elapses, IsImage, IsPartlyWritten, after_write, flushed, written}
-use Rattle.disk_model.specs.DiskLaws.{IsImage-before_flush, IsImage-partly_written}
-use Rattle.image_make.specs.Outcome.{LeavesOnly, after_writes}
+use Rattle.disk_model.specs.DiskLaws.{IsAfterWrites-both, IsAfterWrites-none, IsImage-before_flush, IsImage-partly_written}
+use Rattle.image_make.specs.Outcome.{LeavesOnly}
 
 weaker : (before now : ℕ) (past since : ℕ → List Sector → Type 0) (P Q : List Sector → Type 0) → ((image : List Sector) → P image → Q image)
     → Elapses before now past since P → Elapses before now past since Q
@@ -24,18 +24,13 @@ both a b d past mid since P first second = record {
   keeps = λ moment image le left. second.keeps moment image (omega (arith, first.later)) (first.keeps moment image le left);
 }
 
-after_both : (n m : ℕ) (x : Arming) → after_writes (n + m) x ≡ after_writes m (after_writes n x)
-after_both zero m x = let e : 0 + m ≡ m = omega arith in ap (λ (k : ℕ). after_writes k x) e
-after_both (suc n) m x = let e : suc n + m ≡ suc (n + m) = omega arith in ap (λ (k : ℕ). after_writes k x) e ∙ after_both n m (after_write x)
-
 pub leaves_none : {D : Type 0} (told : Bool) (cells : D → List Cell) (sector_count moment : D → ℕ) (arming : D → Arming) (left : D → ℕ → List Sector → Type 0) (P : List Sector → Type 0)
     (disk : D) → (IsTrue told → (image : List Sector) → IsImage (cells disk) image → P image) → LeavesOnly told cells sector_count moment arming left P disk disk
 leaves_none told cells sector_count moment arming left P disk has = record {
   images = has;
   moments = λ tells. record { later = omega arith; nothing_else = λ moment image le left. inl left; keeps = λ moment image le left. left };
   sectors = refl;
-  writes = 0;
-  armed = refl;
+  armed = IsAfterWrites-none (arming disk);
 }
 
 pub leaves_both : {D : Type 0} (told : Bool) (cells : D → List Cell) (sector_count moment : D → ℕ) (arming : D → Arming) (left : D → ℕ → List Sector → Type 0) (P : List Sector → Type 0)
@@ -45,8 +40,7 @@ leaves_both told cells sector_count moment arming left P a b d first second = re
   images = second.images;
   moments = λ tells. both (moment a) (moment b) (moment d) (left a) (left b) (left d) P (first.moments tells) (second.moments tells);
   sectors = second.sectors ∙ first.sectors;
-  writes = first.writes + second.writes;
-  armed = second.armed ∙ ap (after_writes second.writes) first.armed ∙ sym (after_both first.writes second.writes (arming a));
+  armed = IsAfterWrites-both (arming a) (arming b) (arming d) first.armed second.armed;
 }
 
 pub leaves_weaker : {D : Type 0} (told : Bool) (cells : D → List Cell) (sector_count moment : D → ℕ) (arming : D → Arming) (left : D → ℕ → List Sector → Type 0) (P Q : List Sector → Type 0)
@@ -55,7 +49,6 @@ leaves_weaker told cells sector_count moment arming left P Q a b has first = rec
   images = λ tells image is. has image (first.images tells image is);
   moments = λ tells. weaker (moment a) (moment b) (left a) (left b) P Q has (first.moments tells);
   sectors = first.sectors;
-  writes = first.writes;
   armed = first.armed;
 }
 
@@ -77,8 +70,7 @@ leaves_write told cells sector_count moment arming left P a b result at pieces o
   images = λ tells image is. has tells image (after_attempt result at pieces (cells a) (cells b) image (ok tells) (err tells) is);
   moments = λ tells. weaker (moment a) (moment b) (left a) (left b) (IsImage (written at pieces (cells a))) P (has tells) (time tells);
   sectors = sectors;
-  writes = 1;
-  armed = armed;
+  armed = (1, armed);
 }
 
 after_flush : {T E : Type 0} (result : Result T E) (old new : List Cell) (image : List Sector) → OnOk result (new ≡ flushed old) → OnErr result (new ≡ old) → IsImage new image → IsImage old image
@@ -98,6 +90,5 @@ leaves_flush told cells sector_count moment arming left P a b result ok err time
   images = λ tells image is. has tells image (after_flush result (cells a) (cells b) image (ok tells) err is);
   moments = λ tells. weaker (moment a) (moment b) (left a) (left b) (IsImage (cells a)) P (has tells) (time tells);
   sectors = sectors;
-  writes = 0;
-  armed = armed;
+  armed = (0, armed);
 }

@@ -1,8 +1,8 @@
 -- What the making of an image leaves of a disk.
-use Rattle.std.specs.Prelude.{◌≡◌, ◌⊎◌, ℕ, zero, suc, Bool, IsTrue, List}
+use Rattle.std.specs.Prelude.{◌≡◌, ◌⊎◌, ℕ, Bool, IsTrue, List}
 use Rattle.life_bytes.specs.declared.sector.Sector.{Sector}
 use Rattle.life_bytes.specs.Sectors.{zero_sector}
-use Rattle.disk_model.specs.Disk.{Arming, Cell, Elapses, IsImage, after_write}
+use Rattle.disk_model.specs.Disk.{Arming, Cell, Elapses, IsAfterWrites, IsImage}
 use Rattle.geometry.specs.declared.shape.Geometry.{Geometry}
 use Rattle.life_table.specs.Table.{empty_table}
 use Rattle.sound_image.specs.Places.{bytes_at}
@@ -10,11 +10,6 @@ use Rattle.sound_image.specs.Stands.{HasSuperblock}
 use Rattle.whole_image.specs.Damage.{FirstDamage}
 use Rattle.whole_image.specs.Damage.ImageRule.{superblock}
 use Rattle.whole_image.specs.Stands.{Stands}
-
--- what is armed after so many writes
-abbrev pub after_writes : ℕ → Arming → Arming
-after_writes zero armed = armed
-after_writes (suc writes) armed = after_writes writes (after_write armed)
 
 -- an image whose sector 0 is zero, and a disk of which a stop leaves no other
 abbrev pub IsBlank : List Sector → Type 0
@@ -38,5 +33,4 @@ pub record LeavesOnly {D : Type 0} (told : Bool) (cells : D → List Cell) (sect
   pub images : IsTrue told → (image : List Sector) → IsImage (cells new) image → P image
   pub moments : IsTrue told → Elapses (moment old) (moment new) (left old) (left new) P
   pub sectors : sector_count new ≡ sector_count old
-  pub writes : ℕ
-  pub armed : arming new ≡ after_writes writes (arming old)
+  pub armed : IsAfterWrites (arming old) (arming new)

@@ -1,8 +1,7 @@
 -- What whole jobs move, from their steps.
 use Rattle.std.proofs.Common.{Bool, Result, ◌≡◌, ◌+◌, ◌-◌, ◌<◌, ℕ, List, length, refl, sym, ap, ◌∙◌, subst, inr, arith, Ok, Err}
-use Rattle.disk_model.specs.Disk.{Arming, Cell, after_writes}
+use Rattle.disk_model.specs.Disk.{Arming, Cell, IsAfterWrites}
 use Rattle.log_record.specs.Spelling.{sector_count}
-use Rattle.disk_model.specs.DiskLaws.{after_writes-sum}
 use Rattle.log_record.specs.declared.image.Image.{Image}
 use Rattle.log_store.specs.declared.fault.Progress.{Progress}
 use Rattle.log_store.specs.declared.fault.Progress.TheVariants.{Ended, More}
@@ -11,7 +10,7 @@ use Rattle.log_store.specs.declared.store.Job.{Job}
 use Rattle.log_store.specs.declared.store.Job.TheVariants.{Clear, Force, Home, Idle, Nothing, WriteBack}
 use Rattle.log_store.specs.declared.store.Stage.{Stage}
 use Rattle.log_store.specs.declared.store.Stage.TheVariants.{Cover, Down, Free, Half, Record}
-use Rattle.log_store.specs.Calls.{AfterWrites, DeviceCall, Made, after_gather, flush, none, write}
+use Rattle.log_store.specs.Calls.{DeviceCall, Made, after_gather, flush, none, write}
 use Rattle.log_store.specs.Outcome.{Covered, CoverEndsPast, EndsPast, EndsPastAt, Rises, Stays, StepMoves, goal_of}
 use Rattle.log_store.specs.State.{State}
 use Rattle.log_store.specs.Steps.{JobAsks, JobFits}
@@ -133,15 +132,9 @@ ends_home stage job s images is free ends =
 
 -- ---- what is armed
 
-pub armed_none : (a : Arming) → AfterWrites a a
-armed_none a = (0, refl)
-
-pub armed_both : (a b d : Arming) → AfterWrites a b → AfterWrites b d → AfterWrites a d
-armed_both a b d one two = (one.0 + two.0, two.1 ∙ ap (after_writes two.0) one.1 ∙ sym (after_writes-sum one.0 two.0 a))
-
 -- one call
 pub armed_made : {D : Type 0} (told : Bool) (cells : D → List Cell) (arming : D → Arming) (call : DeviceCall) (result : Result Progress StoreFault) (old new : D)
-    → Made told cells arming call result old new → AfterWrites (arming old) (arming new)
+    → Made told cells arming call result old new → IsAfterWrites (arming old) (arming new)
 armed_made told cells arming none result old new made = (0, ap arming made)
 armed_made told cells arming (write at pieces) (Ok progress) old new made = (1, made.1)
 armed_made told cells arming (write at pieces) (Err fault) old new made = (1, made.1)

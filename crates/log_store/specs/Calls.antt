@@ -1,7 +1,7 @@
 -- The one call of the disk that a step makes, or none, and what it leaves of the disk.
 use Rattle.std.specs.Prelude.{ℕ, ◌≡◌, ◌+◌, ◌-◌, Bool, true, false, nat_le, if◌then◌else◌, IsTrue, List, [], ◌∷◌, length, Result, Ok, Err}
 use Rattle.life_bytes.specs.declared.sector.Sector.{Sector}
-use Rattle.disk_model.specs.Disk.{Arming, Cell, IsPartlyWritten, after_write, after_writes, flushed, written}
+use Rattle.disk_model.specs.Disk.{Arming, Cell, IsPartlyWritten, after_write, flushed, written}
 use Rattle.log_record.specs.declared.image.Image.{Image}
 use Rattle.log_record.specs.declared.image.Commit.{Commit}
 use Rattle.log_record.specs.Spelling.{sector_count, spelled}
@@ -95,10 +95,6 @@ call_of (Err WriteFault) old new was = call_at old.stage was (gathered old new)
 call_of (Err FlushFault) old new was = call_at old.stage was (gathered old new)
 call_of (Err PositionEnd) old new was = none
 call_of (Err (faults.Down fault)) old new was = none
-
--- what some writes leave of what is armed
-abbrev pub AfterWrites : Arming → Arming → Type 0
-AfterWrites old new = (writes : ℕ) × (new ≡ after_writes writes old)
 
 -- A disk before and after the call and no other: what it holds, where that is told, and what is armed.
 abbrev pub Made : {D : Type 0} → Bool → (D → List Cell) → (D → Arming) → DeviceCall → Result Progress StoreFault → D → D → Type 0

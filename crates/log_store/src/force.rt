@@ -1,11 +1,10 @@
 // Whole jobs.
 ghost use Rattle.std.specs.Prelude.{ℕ, ◌≡◌, ◌<◌, ◌+◌, ◌^◌, ◌↔◌, List, [], false, IsTrue, IfErr, IfOk, OnErr, OnOk};
 ghost use Rattle.life_bytes.specs.declared.sector.Sector.{Sector};
-ghost use Rattle.disk_model.specs.Disk.{IsImage};
+ghost use Rattle.disk_model.specs.Disk.{IsAfterWrites, IsImage};
 ghost use Rattle.log_store.specs.OnDisk.{ReplaysTo};
 ghost use Rattle.log_store.specs.declared.store.Job.TheVariants.{Force, Home, Idle, WriteBack};
 ghost use Rattle.log_store.specs.declared.store.Stage.TheVariants.{Down, Free};
-ghost use Rattle.log_store.specs.Calls.{AfterWrites};
 ghost use Rattle.log_store.specs.Outcome.{CoverEndsPast, Covered, IsDone, IsFault, Rises, Stays, covers_of};
 ghost use Rattle.log_store.specs.State.{state_of};
 ghost use Rattle.log_store.specs.Steps.{Goes, IsStore, JobAsks};
@@ -27,7 +26,7 @@ impl<D: Disk> Store<D> {
         ensures covered { self.old.job ≡ Home → OnOk result (Covered (state_of self.old) (state_of self.new)) }
         ensures failed { self.old.job ≡ Home → OnErr result (Stays (state_of self.old) (state_of self.new)) }
         ensures at_end { self.old.job ≡ Home → self.old.stage ≡ Free → CoverEndsPast (state_of self.old) → result ≡ Err StoreFault.PositionEnd }
-        ensures arming { AfterWrites (D.arming self.old.disk) (D.arming self.new.disk) }
+        ensures arming { IsAfterWrites (D.arming self.old.disk) (D.arming self.new.disk) }
         ensures fault { IfErr result (λ fault. IsFault fault self.old.job (state_of self.new) (D.fault_count self.old.disk) (D.fault_count self.new.disk)) }
         ensures down { (fault : ℕ) → self.old.stage ≡ Down fault → (result ≡ Err (StoreFault.Down fault)) × (self.new ≡ record self.old { job = Idle }) }
     {
@@ -52,7 +51,7 @@ impl<D: Disk> Store<D> {
             → ReplaysTo (state_of self.new) (D.cells self.new.disk) image) }
         // A record has at most 135 sectors, and a force writes at most one cover in front of it.
         ensures rises { Rises 0 0 (state_of self.old) (state_of self.new) }
-        ensures arming { AfterWrites (D.arming self.old.disk) (D.arming self.new.disk) }
+        ensures arming { IsAfterWrites (D.arming self.old.disk) (D.arming self.new.disk) }
         ensures fault { IfErr result (λ fault. IsFault fault Force (state_of self.new) (D.fault_count self.old.disk) (D.fault_count self.new.disk)) }
         ensures down { (fault : ℕ) → self.old.stage ≡ Down fault → (result ≡ Err (StoreFault.Down fault)) × (self.new.disk ≡ self.old.disk) }
     {
@@ -70,7 +69,7 @@ impl<D: Disk> Store<D> {
         ensures idle { self.new.job ≡ Idle }
         ensures home { OnOk result ((self.new.dirty.images ≡ []) × (self.new.unflushed ≡ false)) }
         ensures stays { Stays (state_of self.old) (state_of self.new) }
-        ensures arming { AfterWrites (D.arming self.old.disk) (D.arming self.new.disk) }
+        ensures arming { IsAfterWrites (D.arming self.old.disk) (D.arming self.new.disk) }
         ensures fault { IfErr result (λ fault. IsFault fault WriteBack (state_of self.new) (D.fault_count self.old.disk) (D.fault_count self.new.disk)) }
         ensures down { (fault : ℕ) → self.old.stage ≡ Down fault → (result ≡ Err (StoreFault.Down fault)) × (self.new.disk ≡ self.old.disk) }
     {
@@ -90,7 +89,7 @@ impl<D: Disk> Store<D> {
         ensures covered { OnOk result (Covered (state_of self.old) (state_of self.new)) }
         ensures failed { OnErr result (Stays (state_of self.old) (state_of self.new)) }
         ensures end { (result ≡ Err StoreFault.PositionEnd) ↔ (self.old.stage ≡ Free) × (2 ^ 63 < self.old.positions.head + 1) }
-        ensures arming { AfterWrites (D.arming self.old.disk) (D.arming self.new.disk) }
+        ensures arming { IsAfterWrites (D.arming self.old.disk) (D.arming self.new.disk) }
         ensures fault { IfErr result (λ fault. IsFault fault Home (state_of self.new) (D.fault_count self.old.disk) (D.fault_count self.new.disk)) }
         ensures down { (fault : ℕ) → self.old.stage ≡ Down fault → (result ≡ Err (StoreFault.Down fault)) × (self.new.disk ≡ self.old.disk) }
     {

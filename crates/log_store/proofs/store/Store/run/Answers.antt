@@ -1,18 +1,19 @@
 use Rattle.std.proofs.Common.{subst, length, ◌≡◌, refl, sym, ap, ◌∙◌, arith, Ok, Err}
+use Rattle.disk_model.specs.DiskLaws.{IsAfterWrites-both, IsAfterWrites-none}
 use Rattle.log_store.specs.declared.store.Store.{Store}
 use Rattle.log_store.proofs.Ways.{goes_both, goes_job}
 use Rattle.log_store.specs.declared.store.Job.TheVariants.{Home, WriteBack}
 use Rattle.log_store.specs.Outcome.{EndsPastAt, StepMoves, covers_of, goal_of}
 use Rattle.log_store.specs.declared.fault.Progress.{Progress}
 use Rattle.log_store.specs.State.{state_of}
-use Rattle.log_store.proofs.Jobs.{armed_both, armed_made, armed_none, back_more, ends_home, goes_home, home_more, rises_both, rises_none, stays_both, stays_none, writes_back}
+use Rattle.log_store.proofs.Jobs.{armed_made, back_more, ends_home, goes_home, home_more, rises_both, rises_none, stays_both, stays_none, writes_back}
 use Rattle.log_store.proofs.store.Store.run.Goals as goal
 
 ok_err : {T E : Type 0} {x : T} {e : E} → Ok x ≡ Err e → ⊥
 ok_err same = cc
 
 pub loop-init : goal.loop-init
-loop-init g c = record { goes = goes_job g.D.Disk.told g.D.Disk.cells g.D.Disk.sector_count g.D.Disk.moment g.D.Disk.left_since c.args.self.now c.args.self.now.job c.requires c.requires.sound.job c.requires.sound.asks; goal = refl; faults = omega arith; rises = rises_none (covers_of c.args.self.now.job) (state_of c.args.self.now); back = λ is. stays_none (state_of c.args.self.now); home = λ is. stays_none (state_of c.args.self.now); at_end = λ is free ends. refl; arming = armed_none (g.D.Disk.arming c.args.self.now.disk); down = λ fault is. refl }
+loop-init g c = record { goes = goes_job g.D.Disk.told g.D.Disk.cells g.D.Disk.sector_count g.D.Disk.moment g.D.Disk.left_since c.args.self.now c.args.self.now.job c.requires c.requires.sound.job c.requires.sound.asks; goal = refl; faults = omega arith; rises = rises_none (covers_of c.args.self.now.job) (state_of c.args.self.now); back = λ is. stays_none (state_of c.args.self.now); home = λ is. stays_none (state_of c.args.self.now); at_end = λ is free ends. refl; arming = IsAfterWrites-none (g.D.Disk.arming c.args.self.now.disk); down = λ fault is. refl }
 
 pub returns-in_err-advance-clause-goes : goal.returns-in_err-advance-clause-goes
 returns-in_err-advance-clause-goes g c =
@@ -32,7 +33,7 @@ loop-preserved g c =
           (home_more now.stage now.job (state_of now) (state_of c.advance.new.self) (home_is is) c.loop.invariant.goes.store.sound.job moves);
       at_end = λ is free ends. absurd (c.in_ok-advance.ensures.end (subst (λ (x : Store g.row.D.Denot). EndsPastAt x.stage x.job (state_of x) (length c.advance.new.self.batch)) (sym (c.loop.invariant.at_end is free ends))
           (ends_home c.args.self.now.stage c.args.self.now.job (state_of c.args.self.now) (length c.advance.new.self.batch) is free ends)));
-      arming = armed_both (g.D.Disk.arming c.args.self.now.disk) (g.D.Disk.arming now.disk) (g.D.Disk.arming c.advance.new.self.disk) c.loop.invariant.arming
+      arming = IsAfterWrites-both (g.D.Disk.arming c.args.self.now.disk) (g.D.Disk.arming now.disk) (g.D.Disk.arming c.advance.new.self.disk) c.loop.invariant.arming
           (armed_made g.D.Disk.told g.D.Disk.cells g.D.Disk.arming _ _ now.disk c.advance.new.self.disk c.advance.ensures.call);
       goes = goes_both g.D.Disk.told g.D.Disk.cells g.D.Disk.sector_count g.D.Disk.moment g.D.Disk.left_since c.args.self.now c.loop.self c.advance.new.self c.loop.invariant.goes c.advance.ensures.goes;
       goal = out.0 ∙ c.loop.invariant.goal;
@@ -46,10 +47,10 @@ returns-in-Ended-clause-goes g c =
 
 pub returns-in_err-advance-clause-arming : goal.returns-in_err-advance-clause-arming
 returns-in_err-advance-clause-arming g c =
-    armed_both (g.D.Disk.arming c.args.self.now.disk) (g.D.Disk.arming c.loop.self.disk) (g.D.Disk.arming c.advance.new.self.disk) c.loop.invariant.arming
+    IsAfterWrites-both (g.D.Disk.arming c.args.self.now.disk) (g.D.Disk.arming c.loop.self.disk) (g.D.Disk.arming c.advance.new.self.disk) c.loop.invariant.arming
     (armed_made g.D.Disk.told g.D.Disk.cells g.D.Disk.arming _ _ c.loop.self.disk c.advance.new.self.disk c.advance.ensures.call)
 
 pub returns-in-Ended-clause-arming : goal.returns-in-Ended-clause-arming
 returns-in-Ended-clause-arming g c =
-    armed_both (g.D.Disk.arming c.args.self.now.disk) (g.D.Disk.arming c.loop.self.disk) (g.D.Disk.arming c.advance.new.self.disk) c.loop.invariant.arming
+    IsAfterWrites-both (g.D.Disk.arming c.args.self.now.disk) (g.D.Disk.arming c.loop.self.disk) (g.D.Disk.arming c.advance.new.self.disk) c.loop.invariant.arming
     (armed_made g.D.Disk.told g.D.Disk.cells g.D.Disk.arming _ _ c.loop.self.disk c.advance.new.self.disk c.advance.ensures.call)
