@@ -137,22 +137,18 @@ fn read_spoken(alloc: Global, call: Call, words: Pieces) -> Result<Spoken, LineF
             let (group, name) = group_and_name(alloc, words)?;
             Ok(Spoken::Tmpfile { group, name })
         }
-        Call::Open => {
-            let name = one_name(alloc, words)?;
-            Ok(Spoken::Open { name })
-        }
-        Call::Close => {
-            let name = one_name(alloc, words)?;
-            Ok(Spoken::Close { name })
-        }
-        Call::Link => {
-            let name = one_name(alloc, words)?;
-            Ok(Spoken::Link { name })
-        }
-        Call::Unlink => {
-            let name = one_name(alloc, words)?;
-            Ok(Spoken::Unlink { name })
-        }
+        Call::Open => Ok(Spoken::Open {
+            name: one_name(alloc, words)?,
+        }),
+        Call::Close => Ok(Spoken::Close {
+            name: one_name(alloc, words)?,
+        }),
+        Call::Link => Ok(Spoken::Link {
+            name: one_name(alloc, words)?,
+        }),
+        Call::Unlink => Ok(Spoken::Unlink {
+            name: one_name(alloc, words)?,
+        }),
         Call::Grow => {
             let (name, count) = name_and_blocks(alloc, words)?;
             Ok(Spoken::Grow { name, count })
@@ -161,10 +157,9 @@ fn read_spoken(alloc: Global, call: Call, words: Pieces) -> Result<Spoken, LineF
             let (name, count) = name_and_blocks(alloc, words)?;
             Ok(Spoken::Cut { name, count })
         }
-        Call::Stat => {
-            let name = one_name(alloc, words)?;
-            Ok(Spoken::Stat { name })
-        }
+        Call::Stat => Ok(Spoken::Stat {
+            name: one_name(alloc, words)?,
+        }),
         Call::Sync => {
             no_words(words)?;
             Ok(Spoken::Sync)
@@ -177,14 +172,12 @@ fn read_spoken(alloc: Global, call: Call, words: Pieces) -> Result<Spoken, LineF
             no_words(words)?;
             Ok(Spoken::Gc)
         }
-        Call::Flush => {
-            let group = one_group(words)?;
-            Ok(Spoken::Flush { group })
-        }
-        Call::Reclaim => {
-            let group = one_group(words)?;
-            Ok(Spoken::Reclaim { group })
-        }
+        Call::Flush => Ok(Spoken::Flush {
+            group: one_group(words)?,
+        }),
+        Call::Reclaim => Ok(Spoken::Reclaim {
+            group: one_group(words)?,
+        }),
     }
 }
 
