@@ -1,10 +1,10 @@
 -- The blocks that are left are the free ones of the group.
-use Rattle.std.proofs.Common.{◌≡◌, ◌<◌, ◌≤◌, ◌+◌, ◌*◌, ◌++◌, ◌&&◌, ℕ, zero, suc, Bool, true, false, List, [], ◌∷◌, Option, None, Some, All, length, get_or, map, take, drop, cond, eqb, ltb, leb, slice_get, inl, inr, refl, ap, sym, subst, ◌∙◌, arith}
-use Rattle.std.specs.List.{range_with_len, flat_map}
-use Rattle.std.proofs.lemmas.Bool.{cases_lt, false≢true}
+use Rattle.std.proofs.Common.{◌≡◌, ◌<◌, ◌≤◌, ◌+◌, ◌*◌, ◌++◌, ℕ, zero, suc, Bool, true, false, List, [], ◌∷◌, Option, None, All, length, get_or, map, take, drop, inl, inr, refl, ap, sym, subst, ◌∙◌, arith}
+use Rattle.std.specs.List.{range_with_len}
+use Rattle.std.proofs.lemmas.Bool.{cases_lt}
 use Rattle.std.proofs.lemmas.Bool.Decides.{nat_tests}
 use Rattle.std.proofs.lemmas.List.{get_or-map, length-map}
-use Rattle.std.proofs.lemmas.List.Elements.{All-nil, All-head, All-tail, All-map}
+use Rattle.std.proofs.lemmas.List.Elements.{All-head, All-tail}
 use Rattle.std.proofs.lemmas.List.FromFn.{fill_by_all, length-map-range_with_len, get_or-map-range_with_len}
 use Rattle.std.proofs.lemmas.Option.{slice_get-get_or, slice_get_within, get_or_from_slice_get}
 use Rattle.life_bytes.specs.declared.sector.Sector.{Sector}
@@ -22,12 +22,12 @@ use Rattle.free_map.specs.Bitmap.{bitmap}
 use Rattle.sound_image.specs.Places.{bytes_at, part, sector_in}
 use Rattle.image_rules.specs.Shown.{Shows}
 use Rattle.free_map.specs.Blocks.{is_free}
-use Rattle.sound_image.specs.Reading.{inode_at, inode_read, row_at, records_of, group_read, chunk_read, IsOfChunk}
+use Rattle.sound_image.specs.Reading.{inode_at, inode_read, row_at, records_of, group_read, chunk_read}
 use Rattle.sound_image.specs.Rules.{IsIn, IsBitmapRight, free_set}
-use Rattle.image_rules.specs.Gathered.{IsLeft, InNoChunk, InNoneBelow}
+use Rattle.image_rules.specs.Gathered.{IsLeft, InNoChunk}
 use Rattle.image_rules.proofs.Gathering.{row_found, row_none, sector_next}
 use Rattle.image_rules.proofs.Takes.{times_none, times_cons}
-use Rattle.image_rules.proofs.Walking.{blank, Only, Each, none_or_some, at_place}
+use Rattle.image_rules.proofs.Walking.{blank, Only, Each, none_or_some}
 
 times_append : (b : ℕ) (xs ys : List ℕ) → times b (xs ++ ys) ≡ times b xs + times b ys
 times_append b [] ys = omega (arith, times_none b)

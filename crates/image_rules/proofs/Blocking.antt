@@ -1,9 +1,9 @@
 -- The blocks of runs, one run after the other.
-use Rattle.std.proofs.Common.{◌≡◌, ◌<◌, ◌≤◌, ◌+◌, ◌-◌, ◌*◌, ◌++◌, ℕ, zero, suc, List, [], ◌∷◌, All, length, take, get_or, inl, inr, refl, ap, sym, subst, ◌∙◌, arith, length-append}
+use Rattle.std.proofs.Common.{◌≡◌, ◌<◌, ◌≤◌, ◌+◌, ◌-◌, ◌++◌, ℕ, zero, suc, List, [], ◌∷◌, All, length, take, get_or, inl, inr, ap, sym, ◌∙◌, arith, length-append}
 use Rattle.std.specs.List.{range_with_len, flat_map}
 use Rattle.std.proofs.lemmas.Bool.{cases_lt}
 use Rattle.std.proofs.lemmas.List.{take_more, flat_map_more, get_or_past}
-use Rattle.std.proofs.lemmas.List.Concat.{flat_map-append, get_or-flat_map}
+use Rattle.std.proofs.lemmas.List.Concat.{get_or-flat_map}
 use Rattle.std.proofs.lemmas.List.Elements.{All-same, All-append, All-nil, All-head, All-tail}
 use Rattle.std.proofs.lemmas.List.FromFn.{length-range_with_len, get_or-range_with_len}
 use Rattle.extent_fork.specs.declared.extent.Extent.{Extent}

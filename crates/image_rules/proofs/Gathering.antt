@@ -12,14 +12,13 @@ use Rattle.geometry.specs.declared.shape.Geometry.{Geometry}
 use Rattle.life_table.specs.declared.types.Row.{Row}
 use Rattle.life_table.specs.declared.table.Inode.{Inode}
 use Rattle.life_table.specs.Space.{times, row_blocks}
-use Rattle.free_map.specs.Blocks.{is_free}
 use Rattle.life_bytes.specs.Sectors.{zero_sector}
 use Rattle.inobt_leaf.specs.declared.chunk.ChunkRec.{ChunkRec}
 use Rattle.inobt_leaf.specs.Masks.{is_set}
 use Rattle.sound_image.specs.Places.{sector_in, bytes_at}
 use Rattle.sound_image.specs.Reading.{inode_at, inode_read, row_at}
 use Rattle.sound_image.specs.Rules.{IsCoreRight, IsForkRight, AreBlocksAlone, IsIn}
-use Rattle.image_rules.specs.Gathered.{Gathered, IsLeft, CoreHolds, ForkHolds, BlocksHold, ForksBelow, BlocksBelow, FirstFork, FirstShared, InNoChunk, InNoneBelow, IsNext, IsNextChunk, row_unless}
+use Rattle.image_rules.specs.Gathered.{Gathered, IsLeft, CoreHolds, ForkHolds, BlocksHold, ForksBelow, BlocksBelow, IsNext, IsNextChunk, row_unless}
 use Rattle.image_rules.specs.Shown.{Shows}
 use Rattle.image_rules.specs.Taking.{TakesAll, IsCrowded, Adds, all, crowded}
 use Rattle.image_rules.proofs.Takes.{TakesAll-none, times_none, times_cons}

@@ -1,5 +1,5 @@
 -- The chunks of a group, one after the other.
-use Rattle.std.proofs.Common.{◌≡◌, ◌<◌, ◌≤◌, ◌+◌, ◌%◌, ◌/◌, ℕ, zero, suc, List, [], ◌∷◌, Option, None, Some, Bool, true, All, length, get_or, map, slice_get, inl, inr, refl, ap, sym, subst, ◌∙◌, arith, ◌⊎◌, add-one}
+use Rattle.std.proofs.Common.{◌≡◌, ◌<◌, ◌≤◌, ◌+◌, ◌/◌, ℕ, zero, suc, List, Option, None, Some, All, length, get_or, map, slice_get, inl, inr, refl, ap, sym, subst, ◌∙◌, arith, ◌⊎◌}
 use Rattle.std.specs.List.{range_with_len}
 use Rattle.std.proofs.lemmas.Bool.{cases_lt}
 use Rattle.std.proofs.lemmas.List.{get_or-map, length-map}
@@ -8,14 +8,13 @@ use Rattle.std.proofs.lemmas.Option.{slice_get_within, get_or_from_slice_get, sl
 use Rattle.life_bytes.specs.declared.sector.Sector.{Sector}
 use Rattle.geometry.specs.declared.shape.Geometry.{Geometry}
 use Rattle.inobt_leaf.specs.declared.chunk.ChunkRec.{ChunkRec}
-use Rattle.inobt_leaf.specs.Chunks.{IsLeaf, IsChunk}
+use Rattle.inobt_leaf.specs.Chunks.{IsLeaf}
 use Rattle.life_table.specs.declared.table.Inode.{Inode}
 use Rattle.life_table.specs.declared.table.Chunk.{Chunk}
-use Rattle.life_table.specs.Space.{times, chunk_blocks}
-use Rattle.free_map.specs.Blocks.{is_free}
+use Rattle.life_table.specs.Space.{chunk_blocks}
 use Rattle.sound_image.specs.Reading.{inode_at, inode_read, records_of, group_read, chunk_read, IsOfChunk}
 use Rattle.sound_image.specs.Rules.{IsIn}
-use Rattle.image_rules.specs.Gathered.{Gathered, IsNextChunk, InNoChunk}
+use Rattle.image_rules.specs.Gathered.{IsNextChunk, InNoChunk}
 use Rattle.image_rules.specs.Taking.{Misses}
 use Rattle.image_rules.proofs.Blocking.{in_range}
 use Rattle.image_rules.proofs.Gathering.{In-All, range_has}

@@ -1,6 +1,5 @@
-use Rattle.std.proofs.Common.{◌≡◌, ◌+◌, ℕ, Bool, List, length, refl, ap, sym, subst, ◌∙◌, arith, rules}
+use Rattle.std.proofs.Common.{◌+◌, ℕ, List, length, refl, ap, sym, subst, ◌∙◌, arith, rules}
 use Rattle.life_bytes.specs.declared.sector.Sector.{Sector}
-use Rattle.sound_image.specs.Places.{bytes_at, sector_in}
 use Rattle.image_rules.specs.Shown.{Shows}
 use Rattle.image_rules.proofs.Bitmapping.{Compares, right_from, right_to}
 use Rattle.image_rules.proofs.Gathering.{sector_next}

@@ -1,9 +1,8 @@
-use Rattle.std.proofs.Common.{◌≡◌, ◌≤◌, ◌+◌, ℕ, List, All, length, get_or, ap, sym, subst, ◌∙◌, arith, rules}
+use Rattle.std.proofs.Common.{ℕ, List, All, get_or, sym, subst, ◌∙◌, arith, rules}
 use Rattle.life_bytes.specs.declared.sector.Sector.{Sector}
 use Rattle.inobt_leaf.specs.declared.chunk.ChunkRec.{ChunkRec}
-use Rattle.inobt_leaf.specs.Chunks.{IsLeaf, IsChunk}
+use Rattle.inobt_leaf.specs.Chunks.{IsLeaf}
 use Rattle.sound_image.specs.Places.{sector_in}
-use Rattle.sound_image.specs.Reading.{records_of}
 use Rattle.sound_image.specs.Rules.{IsInData}
 use Rattle.image_rules.specs.Faults.{IsCaused}
 use Rattle.image_rules.specs.Gathered.{Gathered, CoreFault, IsNextChunk}

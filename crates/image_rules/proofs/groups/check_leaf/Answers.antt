@@ -1,4 +1,4 @@
-use Rattle.std.proofs.Common.{lit≤, ◌≡◌, ◌≤◌, ◌+◌, ℕ, List, ap, sym, subst, ◌∙◌, arith}
+use Rattle.std.proofs.Common.{lit≤, ◌≡◌, ℕ, List, ap, sym, subst, ◌∙◌, arith}
 use Rattle.std.proofs.lemmas.Bool.{false≢true}
 use Rattle.life_bytes.specs.declared.sector.Sector.{Sector}
 use Rattle.ag_header.specs.declared.agi.Agi.{Agi}

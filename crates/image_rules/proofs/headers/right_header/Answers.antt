@@ -1,4 +1,4 @@
-use Rattle.std.proofs.Common.{rules, arith}
+use Rattle.std.proofs.Common.{rules}
 use Rattle.image_rules.proofs.Heading.{header_right}
 use Rattle.image_rules.proofs.headers.right_header.Goals as goal
 

@@ -1,4 +1,4 @@
-use Rattle.std.proofs.Common.{◌≡◌, ◌<◌, List, arith, All, ℕ, length, take, get_or, subst, refl}
+use Rattle.std.proofs.Common.{◌≡◌, ◌<◌, List, arith, All, ℕ, take, get_or, subst}
 use Rattle.std.proofs.lemmas.List.{take_all}
 use Rattle.std.specs.List.{flat_map}
 use Rattle.extent_fork.specs.declared.extent.Extent.{Extent}

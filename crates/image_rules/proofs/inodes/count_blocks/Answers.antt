@@ -1,4 +1,4 @@
-use Rattle.std.proofs.Common.{◌≡◌, arith, get_or}
+use Rattle.std.proofs.Common.{arith, get_or}
 use Rattle.extent_fork.specs.declared.extent.Extent.{Extent}
 use Rattle.extent_fork.specs.Forks.{IsRun}
 use Rattle.image_rules.proofs.Blocking.{count_more}

@@ -1,4 +1,4 @@
-use Rattle.std.proofs.Common.{◌≡◌, ◌<◌, ◌≤◌, All, ℕ, List, length, ap, sym, ◌∙◌, subst, rules, arith}
+use Rattle.std.proofs.Common.{◌≡◌, ◌<◌, ◌≤◌, All, ℕ, List, length, ap, sym, ◌∙◌, subst}
 use Rattle.std.specs.List.{flat_map}
 use Rattle.std.proofs.lemmas.Bool.{false≢true}
 use Rattle.std.proofs.lemmas.List.Elements.{All-from_recursion}
@@ -7,7 +7,7 @@ use Rattle.extent_fork.specs.Forks.{IsRun}
 use Rattle.extent_fork.specs.Reading.{runs_in}
 use Rattle.extent_fork.specs.Runs.{blocks_of}
 use Rattle.sound_image.specs.Places.{bytes_at, sector_in}
-use Rattle.sound_image.specs.Reading.{core_of, blocks_in}
+use Rattle.sound_image.specs.Reading.{core_of}
 use Rattle.image_rules.proofs.Living.{blocks_are, fork_right, fork_of_sector, fork_counts}
 use Rattle.image_rules.proofs.Blocking.{from_data}
 use Rattle.image_rules.proofs.Outcomes.{IfOk-weaker}

@@ -1,4 +1,4 @@
-use Rattle.std.proofs.Common.{◌≡◌, ℕ, List, length, is_some, ap, sym, ◌∙◌, subst, rules, arith}
+use Rattle.std.proofs.Common.{◌≡◌, ℕ, ap, sym, ◌∙◌, subst, rules}
 use Rattle.inode_core.specs.declared.shape.Core.{Core}
 use Rattle.inode_core.specs.Cores.{Spells}
 use Rattle.sound_image.specs.Places.{number_in}

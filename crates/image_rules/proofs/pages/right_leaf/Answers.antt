@@ -1,10 +1,7 @@
-use Rattle.std.proofs.Common.{◌≡◌, ◌+◌, ◌*◌, ℕ, List, sym, ap, subst, ◌∙◌, arith, rules, All}
+use Rattle.std.proofs.Common.{◌≡◌, ℕ, List, sym, ap, subst, ◌∙◌, All}
 use Rattle.std.proofs.lemmas.Bool.{false≢true}
 use Rattle.life_bytes.specs.SectorBytes.{bytes_of}
 use Rattle.inobt_leaf.specs.declared.chunk.ChunkRec.{ChunkRec}
-use Rattle.inobt_leaf.specs.declared.reading.PageFault.{PageFault}
-use Rattle.inobt_leaf.specs.declared.reading.PageFault.TheVariants.{Malformed, NoMemory}
-use Rattle.inobt_leaf.specs.Chunks.{IsLeaf}
 use Rattle.inobt_leaf.specs.Pages.{spelling}
 use Rattle.sound_image.specs.Reading.{page_sector, records_of}
 use Rattle.sound_image.specs.Rules.{IsInData}

@@ -1,4 +1,4 @@
-use Rattle.std.proofs.Common.{◌≡◌, ◌+◌, ◌++◌, ◌∷◌, [], ℕ, List, length, ap, sym, subst, ◌∙◌, arith, length-append}
+use Rattle.std.proofs.Common.{◌≡◌, ◌+◌, ◌++◌, ◌∷◌, [], ℕ, List, length, ap, sym, subst, ◌∙◌, length-append}
 use Rattle.life_bytes.specs.declared.sector.Sector.{Sector}
 use Rattle.sound_image.specs.Places.{bytes_at}
 use Rattle.image_rules.specs.Shown.{Shows}

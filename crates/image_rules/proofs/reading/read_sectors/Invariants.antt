@@ -1,4 +1,4 @@
-use Rattle.std.proofs.Common.{◌≡◌, ◌+◌, IsTrue, length}
+use Rattle.std.proofs.Common.{◌≡◌, IsTrue, length}
 use Rattle.image_rules.specs.Shown.{Shows}
 use Rattle.image_rules.proofs.reading.read_sectors.Given as goal
 

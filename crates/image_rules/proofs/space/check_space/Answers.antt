@@ -1,4 +1,4 @@
-use Rattle.std.proofs.Common.{lit≤, ◌≡◌, ℕ, List, Option, None, Some, inl, inr, ap, sym, subst, ◌∙◌, arith}
+use Rattle.std.proofs.Common.{lit≤, ◌≡◌, ℕ, List, Option, None, ap, sym, subst, ◌∙◌}
 use Rattle.life_bytes.specs.declared.sector.Sector.{Sector}
 use Rattle.inobt_leaf.specs.Chunks.{IsLeaf}
 use Rattle.sound_image.specs.Damage.{Rule, HoldsIn, tree, bitmap}

@@ -1,4 +1,4 @@
-use Rattle.std.proofs.Common.{◌≡◌, ℕ, List, All, take, subst, ◌∙◌, arith}
+use Rattle.std.proofs.Common.{ℕ, List, All, subst, ◌∙◌, arith}
 use Rattle.std.proofs.lemmas.List.{take_all}
 use Rattle.std.proofs.lemmas.List.Elements.{All-more}
 use Rattle.inobt_leaf.specs.declared.chunk.ChunkRec.{ChunkRec}

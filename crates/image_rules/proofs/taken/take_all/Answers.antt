@@ -1,4 +1,4 @@
-use Rattle.std.proofs.Common.{◌≡◌, ◌+◌, ℕ, Bool, false, List, length, take, get_or, refl, sym, ap, subst, ◌∙◌, arith}
+use Rattle.std.proofs.Common.{◌+◌, Bool, false, List, length, take, get_or, refl, sym, ap, subst, ◌∙◌}
 use Rattle.std.proofs.Math.ListN.{length-set}
 use Rattle.image_rules.specs.Taking.{TakesAll}
 use Rattle.image_rules.proofs.Takes.{TakesAll-none, TakesAll-more, crowded_at}

@@ -1,4 +1,4 @@
-use Rattle.std.proofs.Common.{◌≡◌, refl, ap, ◌∙◌}
+use Rattle.std.proofs.Common.{refl, ap, ◌∙◌}
 use Rattle.image_rules.specs.Gathered.{row_unless}
 use Rattle.image_rules.proofs.Gathering.{Gathered-free, live_of, reached}
 use Rattle.image_rules.proofs.found.Found.add.Goals as goal

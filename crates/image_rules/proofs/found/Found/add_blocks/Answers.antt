@@ -1,4 +1,4 @@
-use Rattle.std.proofs.Common.{◌≡◌, ℕ, Some, sym, subst}
+use Rattle.std.proofs.Common.{ℕ, Some, sym, subst}
 use Rattle.image_rules.specs.Taking.{Adds, all, crowded}
 use Rattle.image_rules.proofs.found.Found.add_blocks.Goals as goal
 

@@ -1,6 +1,4 @@
-use Rattle.std.proofs.Common.{◌≡◌, ◌+◌, ℕ, List, [], ap, sym, subst, ◌∙◌, arith, rules}
-use Rattle.life_bytes.specs.declared.sector.Sector.{Sector}
-use Rattle.sound_image.specs.Places.{sector_in}
+use Rattle.std.proofs.Common.{◌≡◌, ◌+◌, ℕ, [], subst, arith}
 use Rattle.image_rules.specs.Faults.{IsCaused}
 use Rattle.image_rules.specs.Gathered.{Gathered, CoreFault}
 use Rattle.image_rules.proofs.Gathering.{Gathered-wider, next_of}

@@ -1,4 +1,4 @@
-use Rattle.std.proofs.Common.{◌≡◌, ◌≤◌, ◌<◌, ◌+◌, ℕ, List, Option, Some, All, sym, subst, ◌∙◌}
+use Rattle.std.proofs.Common.{◌≤◌, ◌<◌, ◌+◌, ℕ, List, Option, Some, All, sym, subst, ◌∙◌}
 use Rattle.life_table.specs.declared.types.Row.{Row}
 use Rattle.sound_image.specs.Reading.{core_of, blocks_in}
 use Rattle.image_rules.specs.Gathered.{Gathered}

@@ -1,4 +1,4 @@
-use Rattle.std.proofs.Common.{◌≡◌, ℕ, sym, ◌∙◌, arith}
+use Rattle.std.proofs.Common.{sym, ◌∙◌, arith}
 use Rattle.image_rules.proofs.Walking.{in_no_chunk, misses_all}
 use Rattle.image_rules.proofs.found.Found.new.Goals as goal
 
