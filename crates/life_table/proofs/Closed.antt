@@ -1,9 +1,10 @@
 -- The table with no holds, and the changes of a history.
-use Rattle.std.proofs.Common.{◌≡◌, ◌==◌, ◌+◌, ◌-◌, ◌*◌, ◌%◌, ◌&&◌, ℕ, zero, suc, Bool, true, false, List, [], ◌∷◌, ◌++◌, Option, None, Some, option_map, is_none, is_some, if◌then◌else◌, nat_le, nat_lt, map, filter, find, length, take, slice_get, replicate, refl, sym, ap, ◌∙◌, arith}
+use Rattle.std.proofs.Common.{◌≡◌, ◌↔◌, IsSomeAnd, ◌<◌, ◌≤◌, subst, ◌==◌, ◌+◌, ◌-◌, ◌*◌, ◌%◌, ◌&&◌, ℕ, zero, suc, Bool, true, false, List, [], ◌∷◌, ◌++◌, Option, None, Some, option_map, is_none, is_some, if◌then◌else◌, nat_le, nat_lt, map, filter, find, length, take, slice_get, replicate, refl, sym, ap, ◌∙◌, arith}
 use Rattle.std.specs.List.{list_all, range_with_len}
 use Rattle.std.proofs.lemmas.List.{length-map, take_all}
 use Rattle.std.proofs.lemmas.Bool.{true≢false, false≢true}
-use Rattle.life_limits.specs.declared.TheConstants.{FIRST_DATA_BLOCK, GROUP_NUMBERS, MAX_CHUNKS}
+use Rattle.life_limits.specs.declared.TheConstants.{FIRST_DATA_BLOCK, GROUP_NUMBERS, MAX_CHUNKS, MAX_EXTENTS}
+use Rattle.extent_fork.specs.Runs.{runs}
 use Rattle.life_table.specs.declared.key.Key.{Key}
 use Rattle.life_table.specs.declared.types.Row.{Row}
 use Rattle.life_table.specs.declared.types.Call.{Call}
@@ -18,7 +19,7 @@ use Rattle.life_table.specs.declared.table.Chunk.{Chunk}
 use Rattle.life_table.specs.declared.table.Table.{Table}
 use Rattle.life_table.specs.Table.{Group, group_number, group_of, with_group, inode_of, row_in_life, row_of, with_row, in_use, with_inode, map_chunk, map_group}
 use Rattle.life_table.specs.Space.{times, chunk_blocks, row_blocks, inode_blocks, used, is_free_block, free_blocks, begins_run, chunk_place, new_chunk, insert_chunk, is_free, keys_from, free_keys, lowest_key, with_chunk, prepared}
-use Rattle.life_table.specs.Legal.{free_of, prepare, made_row, row_after, with_changed, after_call}
+use Rattle.life_table.specs.Legal.{Awaits, HasNoNumber, IsNextKey, IsNoHold, KeyReplies, Permits, RowReplies, free_of, prepare, made_row, row_after, with_changed, after_call}
 use Rattle.life_table.specs.History.{Happens, Leads, changed, is_change, changes, after_event, after_entries, closed_row, closed_inode, closed, After}
 use Rattle.life_table.proofs.Mapped.{group_of-map, inode_of-map, with_group-map, with_inode-map, with_inode-itself, map_inodes-twice}
 use Rattle.life_table.proofs.Moves.{HasRow-from}
@@ -306,3 +307,77 @@ After-between t entries u n leads =
       ap (λ es. closed (after_entries t es)) (sym found.same)
           ∙ changes_lead t t (take found.count entries) found.table found.leads refl,
     )
+
+-- what a call may be answered has nothing to do with holds, but for those that take one or give one up
+closed_groups : (t : Table) → length (closed t).groups ≡ length t.groups
+closed_groups t = length-map t.groups (map_group closed_inode)
+
+next_key-closed : (t : Table) (g : ℕ) → lowest_key g (prepared t.blocks g (group_of (closed t) g)) ≡ lowest_key g (prepared t.blocks g (group_of t g))
+next_key-closed t g =
+    ap (λ group. lowest_key g (prepared t.blocks g group)) (group_of-map closed_inode t g)
+    ∙ ap (lowest_key g) (prepared-closed t.blocks g (group_of t g)) ∙ ap (λ keys. slice_get keys 0) (free_keys-closed g (prepared t.blocks g (group_of t g)))
+
+no_number-closed : (t : Table) (g : ℕ) → (lowest_key g (group_of (closed t) g) ≡ lowest_key g (group_of t g)) × (chunk_place t.blocks (group_of (closed t) g) ≡ chunk_place t.blocks (group_of t g))
+no_number-closed t g = (
+  ap (lowest_key g) (group_of-map closed_inode t g) ∙ ap (λ keys. slice_get keys 0) (free_keys-closed g (group_of t g)),
+  ap (chunk_place t.blocks) (group_of-map closed_inode t g) ∙ chunk_place-closed t.blocks (group_of t g),
+)
+
+along : (P : List ℕ → Type 0) (a b : List ℕ) → a ≡ b → P a ↔ P b
+along P a b same = (subst P same, subst P (sym same))
+
+abbrev shut : Row → Row
+shut row = record { links = row.links; blocks = row.blocks; opens = 0 }
+
+row_answers : (t : Table) (row : Row) (called : Call) (answer : Reply) → IsNoHold called → RowReplies (closed t) (shut row) called answer ↔ RowReplies t row called answer
+row_answers t row (call.OpenKey key) answer no-hold = absurd no-hold
+row_answers t row (call.CloseKey key) answer no-hold = absurd no-hold
+row_answers t row (call.Grow key count) reply.NoSpace no-hold = along (λ (free : List ℕ). length free < count) (free_of (closed t) key) (free_of t key) (free_of-closed t key)
+row_answers t row (call.Grow key count) reply.TooManyExtents no-hold =
+    along (λ (free : List ℕ). (length free < count → ⊥) × (MAX_EXTENTS < length (runs (row.blocks ++ take count free)))) (free_of (closed t) key) (free_of t key) (free_of-closed t key)
+row_answers t row (call.Grow key count) reply.Done no-hold =
+    along (λ (free : List ℕ). (length free < count → ⊥) × (length (runs (row.blocks ++ take count free)) ≤ MAX_EXTENTS)) (free_of (closed t) key) (free_of t key) (free_of-closed t key)
+row_answers t row _ _ no-hold = (λ h. h, λ h. h)
+
+key_answers : (t : Table) (o : Option Row) (called : Call) (answer : Reply) → IsNoHold called → KeyReplies (closed t) (closed_row o) called answer ↔ KeyReplies t o called answer
+key_answers t (Some row) called answer no-hold = row_answers t row called answer no-hold
+key_answers t None (call.OpenKey key) answer no-hold = absurd no-hold
+key_answers t None _ answer no-hold = (λ h. h, λ h. h)
+
+key_permits : (t : Table) (key : Key) (called : Call) (answer : Reply) → IsNoHold called → KeyReplies (closed t) (row_of (closed t) key) called answer ↔ KeyReplies t (row_of t key) called answer
+key_permits t key called answer no-hold =
+    let both = key_answers t (row_of t key) called answer no-hold in
+    (λ h. both.0 (subst (λ o. KeyReplies (closed t) o called answer) (row_of-closed t key) h), λ h. subst (λ o. KeyReplies (closed t) o called answer) (sym (row_of-closed t key)) (both.1 h))
+
+below : (t : Table) (g : ℕ) → (g < length (closed t).groups) ↔ (g < length t.groups)
+below t g = (subst (λ n. g < n) (closed_groups t), subst (λ n. g < n) (sym (closed_groups t)))
+
+next_permits : (t : Table) (g : ℕ) (key : Key) → IsNextKey (closed t) g key ↔ IsNextKey t g key
+next_permits t g key =
+    (λ h. ((below t g).0 h.0, sym (next_key-closed t g) ∙ h.1), λ h. ((below t g).1 h.0, next_key-closed t g ∙ h.1))
+
+none_permits : (t : Table) (g : ℕ) → ((g < length (closed t).groups) × HasNoNumber (closed t) g) ↔ ((g < length t.groups) × HasNoNumber t g)
+none_permits t g =
+    let same = no_number-closed t g in
+    (λ h. ((below t g).0 h.0, (sym same.0 ∙ h.1.0, sym same.1 ∙ h.1.1)), λ h. ((below t g).1 h.0, (same.0 ∙ h.1.0, same.1 ∙ h.1.1)))
+
+pub permits-closed : (t : Table) (called : Call) (answer : Reply) → IsNoHold called → Permits (closed t) called answer ↔ Permits t called answer
+permits-closed t (call.OpenKey key) answer no-hold = absurd no-hold
+permits-closed t (call.CloseKey key) answer no-hold = absurd no-hold
+permits-closed t (call.Create g) (reply.Made key) no-hold = next_permits t g key
+permits-closed t (call.Create g) reply.NoInodes no-hold = none_permits t g
+permits-closed t (call.Tmpfile g) (reply.Made key) no-hold = next_permits t g key
+permits-closed t (call.Tmpfile g) reply.NoInodes no-hold = none_permits t g
+permits-closed t (call.Link key) answer no-hold = key_permits t key (call.Link key) answer tt
+permits-closed t (call.Unlink key) answer no-hold = key_permits t key (call.Unlink key) answer tt
+permits-closed t (call.Grow key count) answer no-hold = key_permits t key (call.Grow key count) answer tt
+permits-closed t (call.Cut key count) answer no-hold = key_permits t key (call.Cut key count) answer tt
+permits-closed t (call.Stat key) answer no-hold = key_permits t key (call.Stat key) answer tt
+permits-closed t _ _ no-hold = (λ h. h, λ h. h)
+
+awaits_shut : (o : Option Row) → IsSomeAnd o Awaits → IsSomeAnd (closed_row o) Awaits
+awaits_shut None h = h
+awaits_shut (Some row) h = (h.0, refl)
+
+pub awaits-closed : (t : Table) (key : Key) → IsSomeAnd (row_of t key) Awaits → IsSomeAnd (row_of (closed t) key) Awaits
+awaits-closed t key h = subst (λ o. IsSomeAnd o Awaits) (sym (row_of-closed t key)) (awaits_shut (row_of t key) h)

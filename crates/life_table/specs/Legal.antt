@@ -184,3 +184,9 @@ CanMake t _ = ⊤
 abbrev pub IsNoCut : Call → Type 0
 IsNoCut (call.Cut key count) = ⊥
 IsNoCut _ = ⊤
+
+-- each call but those that take a hold or give one up
+abbrev pub IsNoHold : Call → Type 0
+IsNoHold (call.OpenKey key) = ⊥
+IsNoHold (call.CloseKey key) = ⊥
+IsNoHold _ = ⊤

@@ -1,6 +1,6 @@
 // What the definitions have been proved to mean: each law is the contract of a function that does nothing.
 
-ghost use Rattle.std.specs.Prelude.{◌≡◌, ◌≢◌, ◌<◌, ◌≤◌, ◌+◌, ℕ, true, false, List, IsSome, length, take};
+ghost use Rattle.std.specs.Prelude.{◌≡◌, ◌≢◌, ◌↔◌, ◌<◌, ◌≤◌, ◌+◌, ℕ, true, false, List, IsSome, IsSomeAnd, length, take};
 ghost use Rattle.std.specs.List.{AllByRecursion};
 ghost use Rattle.std.specs.Option.{option_map};
 ghost use Rattle.life_table.specs.declared.key.Key.{Key};
@@ -13,7 +13,7 @@ ghost use Rattle.life_table.specs.declared.table.Table.{Table};
 ghost use Rattle.life_limits.specs.declared.TheConstants.{MAX_BLOCKS, MAX_GROUPS, MIN_BLOCKS, VERSION};
 ghost use Rattle.life_table.specs.Table.{empty_table, group_number, group_of, inode_of, row_of};
 ghost use Rattle.life_table.specs.Space.{times};
-ghost use Rattle.life_table.specs.Legal.{Legal, Permits, Frees, IsOpen, IsOfTable, CanMake, IsNoCut, free_in, free_of, last_blocks};
+ghost use Rattle.life_table.specs.Legal.{Awaits, Legal, Permits, Frees, IsOpen, IsOfTable, CanMake, IsNoCut, IsNoHold, free_in, free_of, last_blocks};
 ghost use Rattle.life_table.specs.Replies.{reply_of};
 ghost use Rattle.life_table.specs.WellFormed.{IsDataBlock, IsRow, IsTable};
 ghost use Rattle.life_table.specs.History.{Leads, LegalHistory, holds, After, after_event, changes, closed, is_change, recovered, recovered_inode, orphans, frees_of};
@@ -69,8 +69,11 @@ pub fn changes_tell_the_table()
     ensures between { (t u : Table) (entries : List Entry) (n : ℕ) → Leads t entries u → (count : ℕ) × (middle : Table) × Leads t (take count entries) middle × (After t entries n ≡ closed middle) }
 {}
 
-/// A law: what a change does has nothing to do with holds, and what is no change leaves all but holds.
+/// A law: what a change does has nothing to do with holds, and what is no change leaves all but holds. Nor has what a call may be answered, but for a call
+/// that takes a hold or gives one up.
 pub fn changes_pass_over_holds()
+    ensures permits { (t : Table) (called : Call) (answer : Reply) → IsNoHold called → (Permits (closed t) called answer ↔ Permits t called answer) }
+    ensures awaits { (t : Table) (key : Key) → IsSomeAnd (row_of t key) Awaits → IsSomeAnd (row_of (closed t) key) Awaits }
     ensures change { (t : Table) (event : Event) → is_change event ≡ true → closed (after_event t event) ≡ closed (after_event (closed t) event) }
     ensures no_change { (t : Table) (event : Event) → is_change event ≡ false → closed (after_event t event) ≡ closed t }
     ensures twice { (t : Table) → closed (closed t) ≡ closed t }
