@@ -1,5 +1,5 @@
 -- Where a history leads, and where its changes lead.
-use Rattle.std.proofs.Common.{◌≡◌, ◌⊎◌, Bool, true, false, if◌then◌else◌, List, [], ◌∷◌, length, take, refl, sym, ap, subst, ◌∙◌, inl, inr, ℕ, zero, suc, arith}
+use Rattle.std.proofs.Common.{◌≡◌, IsSomeAnd, ◌⊎◌, Bool, true, false, if◌then◌else◌, List, [], ◌∷◌, length, take, refl, sym, ap, subst, ◌∙◌, inl, inr, ℕ, zero, suc, arith}
 use Rattle.std.specs.List.{AllByRecursion}
 use Rattle.std.proofs.lemmas.List.{take_all}
 use Rattle.life_table.specs.declared.key.Key.{Key}
@@ -11,9 +11,10 @@ use Rattle.life_table.specs.declared.types.Event.TheVariants.{Called, Freed}
 use Rattle.life_table.specs.declared.types.Entry.{Entry}
 use Rattle.life_table.specs.declared.table.Table.{Table}
 use Rattle.life_table.specs.History.{After, after_entries, after_event, changes, closed, is_change}
-use Rattle.life_table.specs.Legal.{Frees, Legal, Permits}
+use Rattle.life_table.specs.Legal.{Awaits, Frees, IsNoHold, Legal, Permits}
+use Rattle.life_table.specs.Table.{row_of}
 use Rattle.life_table.specs.WellFormed.{IsTable}
-use Rattle.group_core.specs.GroupHistory.{IsInGroup, LeadsUnheld, LegalGroupHistory, PermitsUnheld}
+use Rattle.group_core.specs.GroupHistory.{HappensUnheld, IsInGroup, LeadsUnheld, LegalGroupHistory, PermitsUnheld}
 
 pub one_end : (first last other : Table) (entries : List Entry) → LeadsUnheld first entries last → LeadsUnheld first entries other → last ≡ other
 one_end first last other [] leads also = leads ∙ sym also
@@ -117,3 +118,23 @@ pub table_end : (laws : PassOver) (stays : StayWellFormed) (first last : Table) 
 table_end laws stays first last [] is leads = subst (λ (u : Table). IsTable u) (sym leads) is
 table_end laws stays first last (entry ∷ entries) is leads =
     table_end laws stays leads.0 last entries (subst (λ (u : Table). IsTable u) (sym leads.1.1) (table_after laws stays first entry.event is leads.1.0)) leads.2
+
+-- where a legal event leads, holds aside
+ends_unheld : (laws : PassOver) (t : Table) (event : Event) → closed (after_event t event) ≡ closed (after_event (closed t) event)
+ends_unheld laws t event =
+    elim (is_change event) as (λ c. is_change event ≡ c → closed (after_event t event) ≡ closed (after_event (closed t) event)) [
+      | true ↦ λ is. laws.change t event is
+      | false ↦ λ is. laws.no_change t event is ∙ sym (laws.no_change (closed t) event is ∙ laws.twice t)
+    ] refl
+
+permits_unheld : (t : Table) (called : Call) (answer : Reply) → IsNoHold called → Permits t called answer → PermitsUnheld t (Called called answer)
+permits_unheld t (call.OpenKey key) answer none permits = absurd none
+permits_unheld t called answer none permits = permits
+
+pub call_unheld : (laws : PassOver) (t u : Table) (called : Call) (answer : Reply) → IsNoHold called → Permits (closed t) called answer → u ≡ after_event t (Called called answer)
+    → HappensUnheld (closed t) (Called called answer) (closed u)
+call_unheld laws t u called answer none permits leads =
+    (permits_unheld (closed t) called answer none permits, ap closed leads ∙ ends_unheld laws t (Called called answer))
+
+pub free_unheld : (laws : PassOver) (t u : Table) (key : Key) → IsSomeAnd (row_of (closed t) key) Awaits → u ≡ after_event t (Freed key) → HappensUnheld (closed t) (Freed key) (closed u)
+free_unheld laws t u key awaits leads = (awaits, ap closed leads ∙ ends_unheld laws t (Freed key))

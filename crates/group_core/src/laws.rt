@@ -1,11 +1,16 @@
 // What the definitions have been proved to mean: the law is the contract of a function that does nothing.
 
 ghost use Rattle.std.specs.Prelude.{◌≡◌, ℕ, List, length, take};
+ghost use Rattle.life_table.specs.declared.key.Key.{Key};
+ghost use Rattle.life_table.specs.declared.types.Call.{Call};
+ghost use Rattle.life_table.specs.declared.types.Reply.{Reply};
+ghost use Rattle.life_table.specs.declared.types.Event.TheVariants.{Called, Freed};
 ghost use Rattle.life_table.specs.declared.types.Entry.{Entry};
 ghost use Rattle.life_table.specs.declared.table.Table.{Table};
 ghost use Rattle.life_table.specs.History.{After, changes, closed};
+ghost use Rattle.life_table.specs.Legal.{Frees, IsNoHold, Legal};
 ghost use Rattle.life_table.specs.WellFormed.{IsTable};
-ghost use Rattle.group_core.specs.GroupHistory.{LegalGroupHistory};
+ghost use Rattle.group_core.specs.GroupHistory.{HappensUnheld, LegalGroupHistory};
 
 use life_table::{changes_pass_over_holds, tables_stay_well_formed};
 
@@ -24,4 +29,13 @@ pub fn histories_lead_to_one_table()
 {
     changes_pass_over_holds();
     tables_stay_well_formed();
+}
+
+/// A law: what legally happens to a table, holds aside, is what may happen to it without holds; but for a call that takes a hold or gives one up.
+pub fn legal_events_happen_unheld()
+    ensures call { (t u : Table) (called : Call) (answer : Reply) → IsNoHold called → Legal t called answer u
+        → HappensUnheld (closed t) (Called called answer) (closed u) }
+    ensures free { (t u : Table) (key : Key) → Frees t key u → HappensUnheld (closed t) (Freed key) (closed u) }
+{
+    changes_pass_over_holds();
 }

@@ -6,7 +6,7 @@ mod laws;
 mod table;
 
 pub use group::{Group, begin_group};
-pub use laws::histories_lead_to_one_table;
+pub use laws::{histories_lead_to_one_table, legal_events_happen_unheld};
 pub use table::{GroupTable, Staged};
 
 #[cfg(test)]

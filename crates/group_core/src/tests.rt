@@ -130,5 +130,6 @@ fn a_group_keeps_its_entries_and_makes_its_changes(rt: HostRuntime) -> Result<()
     let other = begin_group(rt.alloc(), Sample { links: 3, room: 0 })?;
     assert_eq!(rt; other.into_state().links, 3);
     histories_lead_to_one_table();
+    legal_events_happen_unheld();
     Ok(())
 }
