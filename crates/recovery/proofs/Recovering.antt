@@ -1,16 +1,14 @@
 -- Images from the time in which a log is brought home.
-use Rattle.std.proofs.Common.{◌≡◌, ◌⊎◌, ℕ, zero, suc, ◌+◌, ◌-◌, ◌<◌, ◌≤◌, ◌^◌, List, [], ◌∷◌, Option, Some, None, length, take, drop, set, get_or, slice_get, refl, sym, ap, subst, inl, inr, ◌∙◌, arith, length-set}
+use Rattle.std.proofs.Common.{◌≡◌, ℕ, zero, suc, ◌+◌, ◌-◌, ◌<◌, ◌≤◌, ◌^◌, List, [], ◌∷◌, Some, None, length, take, drop, set, sym, ap, subst, inl, inr, ◌∙◌, arith, length-set}
 use Rattle.std.specs.List.{All}
-use Rattle.std.proofs.lemmas.Bool.{cases_lt}
 use Rattle.std.proofs.lemmas.List.{get_or-set_same, length-take, take-set-le, drop-set-lt}
 use Rattle.std.proofs.lemmas.List.Elements.{All-head, All-tail}
 use Rattle.std.proofs.lemmas.Option.{slice_get-get_or}
 use Rattle.std.proofs.Math.Seq.{take-set-lt}
 use Rattle.life_limits.specs.declared.TheConstants.{MOUNT_LIMIT}
-use Rattle.life_bytes.specs.Fields.{field}
 use Rattle.life_bytes.specs.declared.sector.Sector.{Sector}
-use Rattle.disk_model.specs.Disk.{Cell, Elapses, HasOneImage, IsImage, as_read, flushed, written}
-use Rattle.disk_model.specs.DiskLaws.{IsTorn, IsTorn-from_image, IsImage-one, as_read-flushed}
+use Rattle.disk_model.specs.Disk.{Cell, HasOneImage, IsImage, as_read, written}
+use Rattle.disk_model.specs.DiskLaws.{IsTorn, IsTorn-from_image, IsImage-one}
 use Rattle.log_record.specs.declared.image.Image.{Image}
 use Rattle.log_record.specs.declared.record.LogRecord.{LogRecord}
 use Rattle.log_image.specs.Anchor.{HasAnchor, anchor_sector}

@@ -2,7 +2,6 @@
 use Rattle.std.specs.Prelude.{◌≡◌, List}
 use Rattle.std.specs.Borrow.{Bor}
 use Rattle.std.proofs.Common.{ap, ◌∙◌}
-use Rattle.life_bytes.specs.declared.sector.Sector.{Sector}
 use Rattle.disk_model.specs.Disk.{Cell, as_read}
 use Rattle.log_image.specs.Overlay.{overlaid}
 use Rattle.recovery.specs.declared.found.Found.{Found}

@@ -1,5 +1,5 @@
 -- What a replay makes of a disk.
-use Rattle.std.specs.Prelude.{ℕ, ◌≡◌, ◌≤◌, ◌<◌, ◌+◌, ◌⊎◌, List, Result, IfErr, OnErr, slice_set}
+use Rattle.std.specs.Prelude.{ℕ, ◌≡◌, ◌≤◌, ◌+◌, ◌⊎◌, List, Result, IfErr, OnErr, slice_set}
 use Rattle.life_limits.specs.declared.TheConstants.{MOUNT_LIMIT}
 use Rattle.life_bytes.specs.declared.sector.Sector.{Sector}
 use Rattle.life_ports.specs.Faults.{NeverFalls, Rose}

@@ -20,3 +20,6 @@ pub use reading::scan;
 pub use replayed::Overlay;
 pub use replaying::replay;
 pub use start::{ReplayFault, Start};
+
+#[cfg(test)]
+mod tests;

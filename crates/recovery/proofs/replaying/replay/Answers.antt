@@ -1,6 +1,6 @@
-use Rattle.std.proofs.Common.{◌≡◌, ◌+◌, List, sym, ap, subst, ◌∙◌}
+use Rattle.std.proofs.Common.{List}
 use Rattle.life_bytes.specs.declared.sector.Sector.{Sector}
-use Rattle.disk_model.specs.Disk.{Arming, IsImage, as_read}
+use Rattle.disk_model.specs.Disk.{as_read}
 use Rattle.disk_model.specs.DiskLaws.{IsImage-as_read}
 use Rattle.recovery.specs.Put.{IsPartlyPut}
 use Rattle.recovery.specs.Replay.{IsEither, Recovers, groups_found}

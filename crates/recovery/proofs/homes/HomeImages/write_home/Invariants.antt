@@ -1,4 +1,4 @@
-use Rattle.std.proofs.Common.{◌≡◌, ◌≤◌, IsTrue, List}
+use Rattle.std.proofs.Common.{◌≡◌, IsTrue, List}
 use Rattle.life_bytes.specs.declared.sector.Sector.{Sector}
 use Rattle.life_ports.specs.Faults.{NeverFalls}
 use Rattle.disk_model.specs.Disk.{Elapses, HasOneImage, IsImage, as_read}
