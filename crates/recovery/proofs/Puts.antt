@@ -3,14 +3,14 @@ use Rattle.std.proofs.Common.{◌≡◌, ◌⊎◌, ℕ, zero, suc, ◌+◌, ◌
 use Rattle.std.specs.List.{All}
 use Rattle.std.proofs.lemmas.List.Elements.{All-head, All-tail}
 use Rattle.life_bytes.specs.declared.sector.Sector.{Sector}
-use Rattle.disk_model.specs.Disk.{Arming, Cell, Elapses, HasOneImage, IsImage, after_write, as_read, written}
+use Rattle.disk_model.specs.Disk.{Cell, Elapses, HasOneImage, IsImage, as_read, written}
 use Rattle.disk_model.specs.DiskLaws.{IsTorn, IsTorn-from_image, IsImage-one, length-torn}
 use Rattle.log_record.specs.declared.image.Image.{Image}
 use Rattle.log_image.specs.Overlay.{newest, overlaid}
 use Rattle.log_batch.specs.Put.{Rises}
 use Rattle.log_batch.specs.NewestLaws.{newest_first, newest_rest}
 use Rattle.recovery.specs.Homes.{images_in}
-use Rattle.recovery.specs.Put.{IsAfterWrites, IsPartlyPut, after_writes}
+use Rattle.recovery.specs.Put.{IsPartlyPut}
 
 -- ---- one sector
 
@@ -118,15 +118,3 @@ elapses_more first second third one two three P Q a b weaker = record {
   ];
   keeps = λ since image le was. b.keeps since image (omega (arith, le, a.later)) (a.keeps since image le was);
 }
-
-pub no_writes : (arming : Arming) → IsAfterWrites arming arming
-no_writes arming = (0, refl)
-
-pub one_write_more : (first second third : Arming) → IsAfterWrites first second → third ≡ after_write second → IsAfterWrites first third
-one_write_more first second third (writes, is) more = (suc writes, more ∙ ap after_write is)
-
-pub more_writes : (first second third : Arming) (writes : ℕ) → IsAfterWrites first second → third ≡ after_writes writes second → IsAfterWrites first third
-more_writes first second third zero before is = subst (λ (a : Arming). IsAfterWrites first a) (sym is) before
-more_writes first second third (suc writes) before is =
-    let rest = more_writes first second (after_writes writes second) writes before refl in
-    (suc rest.0, is ∙ ap after_write rest.1)

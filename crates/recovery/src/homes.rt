@@ -3,10 +3,10 @@ ghost use Rattle.std.specs.Prelude.{◌≡◌, ◌<◌, List, [], IsTrue, OnOk, 
 ghost use Rattle.std.specs.List.{All};
 ghost use Rattle.life_bytes.specs.declared.sector.Sector.{Sector};
 ghost use Rattle.life_ports.specs.Faults.{HasCause};
-ghost use Rattle.disk_model.specs.Disk.{Elapses, HasOneImage, IsImage, as_read};
+ghost use Rattle.disk_model.specs.Disk.{Elapses, HasOneImage, IsAfterWrites, IsImage, as_read};
 ghost use Rattle.log_batch.specs.Put.{put, put_all};
 ghost use Rattle.log_image.specs.Overlay.{newest, overlaid};
-ghost use Rattle.recovery.specs.Put.{IsAfterWrites, IsPartlyPut};
+ghost use Rattle.recovery.specs.Put.{IsPartlyPut};
 
 use disk_model::Disk;
 use life_bytes::Sector;

@@ -4,11 +4,11 @@ ghost use Rattle.std.specs.List.{All};
 ghost use Rattle.life_bytes.specs.declared.sector.Sector.{Sector};
 ghost use Rattle.life_ports.specs.Faults.{NeverFalls, Rose};
 ghost use Rattle.geometry.specs.Shape.{IsGeometry};
-ghost use Rattle.disk_model.specs.Disk.{Elapses, HasOneImage, IsImage, as_read};
+ghost use Rattle.disk_model.specs.Disk.{Elapses, HasOneImage, IsAfterWrites, IsImage, as_read};
 ghost use Rattle.log_image.specs.Anchor.{anchor_sector};
 ghost use Rattle.log_image.specs.Overlay.{overlaid};
 ghost use Rattle.recovery.specs.Found.{HasGroupImages, IsFound};
-ghost use Rattle.recovery.specs.Put.{IsAfterWrites, IsPartlyPut};
+ghost use Rattle.recovery.specs.Put.{IsPartlyPut};
 ghost use Rattle.recovery.specs.Replay.{AreUsedUp, BeginsAnew, HasDeviceCause, IsBehind, IsEither, Recovers, groups_found};
 ghost use Rattle.recovery.specs.Scan.{anchor_of};
 

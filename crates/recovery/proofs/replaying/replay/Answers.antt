@@ -5,7 +5,8 @@ use Rattle.disk_model.specs.DiskLaws.{IsImage-as_read}
 use Rattle.recovery.specs.Put.{IsPartlyPut}
 use Rattle.recovery.specs.Replay.{IsEither, Recovers, groups_found}
 use Rattle.recovery.specs.Scan.{anchor_of}
-use Rattle.recovery.proofs.Puts.{elapses_more, elapses_none, more_writes, put_first}
+use Rattle.recovery.proofs.Puts.{elapses_more, elapses_none, put_first}
+use Rattle.disk_model.specs.DiskLaws.{IsAfterWrites-both}
 use Rattle.recovery.proofs.Recovering.{Laws, Home, begins_anew, recovers_either, recovers_partly}
 use Rattle.recovery.proofs.replaying.replay.Goals as goal
 
@@ -76,7 +77,7 @@ pub returns-in_err-settle_sector-clause-arming : goal.returns-in_err-settle_sect
 returns-in_err-settle_sector-clause-arming g c =
     let d = g.D.Disk in
     let after = c.settle_sector.ensures.arming in
-    more_writes (d.arming c.args.disk.now) (d.arming c.settle_home.new.disk) (d.arming c.settle_sector.new.disk) after.0 c.settle_home.ensures.arming after.1
+    IsAfterWrites-both (d.arming c.args.disk.now) (d.arming c.settle_home.new.disk) (d.arming c.settle_sector.new.disk) c.settle_home.ensures.arming after
 
 pub returns-clause-anew : goal.returns-clause-anew
 returns-clause-anew g c told =
@@ -137,4 +138,4 @@ pub returns-clause-arming : goal.returns-clause-arming
 returns-clause-arming g c =
     let d = g.D.Disk in
     let after = c.settle_sector.ensures.arming in
-    more_writes (d.arming c.args.disk.now) (d.arming c.settle_home.new.disk) (d.arming c.settle_sector.new.disk) after.0 c.settle_home.ensures.arming after.1
+    IsAfterWrites-both (d.arming c.args.disk.now) (d.arming c.settle_home.new.disk) (d.arming c.settle_sector.new.disk) c.settle_home.ensures.arming after

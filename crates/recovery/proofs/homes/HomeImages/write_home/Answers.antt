@@ -9,7 +9,8 @@ use Rattle.log_record.specs.declared.image.Image.{Image}
 use Rattle.log_image.specs.Overlay.{overlaid}
 use Rattle.recovery.specs.Homes.{images_in}
 use Rattle.recovery.specs.Put.{IsPartlyPut}
-use Rattle.recovery.proofs.Puts.{AreLeft, as_read_put, elapses_more, elapses_none, left_all, no_writes, one_write_more, overlaid-cons, overlaid-nil, put_first, put_more}
+use Rattle.disk_model.specs.DiskLaws.{IsAfterWrites-both, IsAfterWrites-none}
+use Rattle.recovery.proofs.Puts.{AreLeft, as_read_put, elapses_more, elapses_none, left_all, overlaid-cons, overlaid-nil, put_first, put_more}
 use Rattle.recovery.proofs.homes.HomeImages.write_home.Goals as goal
 
 pub loop-home-init : goal.loop-home-init
@@ -25,7 +26,7 @@ loop-home-init g c =
           (subst (λ (l : List Image). AreLeft l (d.sector_count disk) entries) c.self.view_is left);
       sectors = search rules;
       count = omega arith;
-      armed = no_writes (d.arming disk);
+      armed = IsAfterWrites-none (d.arming disk);
       reads = λ told. ap (λ (l : List (ℕ × Sector)). overlaid (as_read (d.cells disk)) (images_in l)) all ∙ ap (overlaid (as_read (d.cells disk))) c.self.view_is;
       left = λ told one. put_first c.args.self.now (d.cells disk) one;
       time = λ told one. elapses_none (d.moment disk) (d.left_since disk) (IsPartlyPut c.args.self.now (as_read (d.cells disk)));
@@ -46,7 +47,7 @@ loop-home-preserved g c =
       rest = subst (λ (n : ℕ). AreLeft c.args.self.now n c.next.new.self) (sym c.write.ensures.sectors) left.2;
       sectors = c.write.ensures.sectors ∙ inv.sectors;
       count = omega (arith, inv.count, c.write.ensures.cause.never_falls);
-      armed = one_write_more (d.arming c.args.disk.now) (d.arming c.loop-home.disk) (d.arming c.write.new.self) inv.armed c.write.ensures.arming;
+      armed = IsAfterWrites-both (d.arming c.args.disk.now) (d.arming c.loop-home.disk) (d.arming c.write.new.self) inv.armed (1, c.write.ensures.arming);
       reads = λ told.
           ap (λ (l : List Sector). overlaid l (images_in c.next.new.self)) (ap as_read (c.in_ok-write.ensures.written told) ∙ as_read_put home sector cells)
           ∙ sym (overlaid-cons (as_read cells) (record { home = home; sector = sector }) (images_in c.next.new.self))
@@ -95,7 +96,7 @@ returns-in_err-write-clause-time g c told one =
 pub returns-in_err-write-clause-arming : goal.returns-in_err-write-clause-arming
 returns-in_err-write-clause-arming g c =
     let d = g.D.Disk in
-    one_write_more (d.arming c.args.disk.now) (d.arming c.loop-home.disk) (d.arming c.write.new.self) c.loop-home.invariant.armed c.write.ensures.arming
+    IsAfterWrites-both (d.arming c.args.disk.now) (d.arming c.loop-home.disk) (d.arming c.write.new.self) c.loop-home.invariant.armed (1, c.write.ensures.arming)
 
 pub returns-clause-reads : goal.returns-clause-reads
 returns-clause-reads g c told =

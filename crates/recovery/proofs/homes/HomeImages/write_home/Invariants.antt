@@ -4,7 +4,8 @@ use Rattle.life_ports.specs.Faults.{NeverFalls}
 use Rattle.disk_model.specs.Disk.{Elapses, HasOneImage, IsImage, as_read}
 use Rattle.log_image.specs.Overlay.{overlaid}
 use Rattle.recovery.specs.Homes.{images_in}
-use Rattle.recovery.specs.Put.{IsAfterWrites, IsPartlyPut}
+use Rattle.disk_model.specs.Disk.{IsAfterWrites}
+use Rattle.recovery.specs.Put.{IsPartlyPut}
 use Rattle.recovery.proofs.Puts.{AreLeft}
 use Rattle.recovery.proofs.homes.HomeImages.write_home.Given as goal
 
