@@ -200,6 +200,8 @@ pub fn top<I: Images, S: Source, K: Sink>(
 
     // When each status comes.
     ensures usage { IsUsage words.now result.status }
+    // Where the words are in no form, neither the script nor the images are touched.
+    ensures untouched { ((path : List ℕ) → IsSteps words.now path → ⊥) → (script.new ≡ script.old) × (images.new ≡ images.old) }
     ensures script_fault { (path : List ℕ) → IsSteps words.now path → WhereTold (S.bytes_left script.old) (λ bytes. FaultsExactly bytes result.status) }
     ensures script_too_long { (path : List ℕ) → IsSteps words.now path → WhereTold (S.bytes_left script.old) (λ bytes. IsTooLongExactly bytes result.status) }
     ensures complete { (path : List ℕ) → IsSteps words.now path → WhereTold (S.bytes_left script.old) (λ bytes. IsReadable bytes → CompletesAs result.status) }
