@@ -54,6 +54,10 @@ steps_at (Down fault) job s = 0
 abbrev pub steps_left : State → Job → ℕ
 steps_left s job = 600 * length s.list + 2 * length s.dirty + steps_at s.stage job s
 
+-- A write of the log failed, and the store is down, with the disk's count then. No job that only writes back comes to it.
+abbrev pub LogFails : State → Job → ℕ → Type 0
+LogFails new was now = (new.stage ≡ Down now) × (was ≢ WriteBack)
+
 -- A home write failed: its sector is still dirty, and the store goes on.
 abbrev pub HomeFails : State → State → Type 0
 HomeFails old new = (old.dirty ≢ []) × (new.dirty ≡ old.dirty) × (old.stage ≡ Free) × (new.stage ≡ Free)
@@ -150,15 +154,15 @@ abbrev pub IsOutcome : Result Progress StoreFault → State → State → Job �
 IsOutcome (Ok More) old new was job before now = (goal_of job ≡ goal_of was) × (steps_left new job < steps_left old was) × (before ≤ now)
 IsOutcome (Ok Ended) old new was job before now = (job ≡ Idle) × IsDone was new × (before ≤ now)
 IsOutcome (Err WriteFault) old new was job before now =
-    (job ≡ Idle) × Rose before now × ((new.stage ≡ Down now) ⊎ HomeFails old new) × Writes (step_call old new was)
+    (job ≡ Idle) × Rose before now × (LogFails new was now ⊎ HomeFails old new) × Writes (step_call old new was)
 IsOutcome (Err FlushFault) old new was job before now = (job ≡ Idle) × Rose before now × (new.stage ≡ Down now) × Flushes (step_call old new was)
 IsOutcome (Err PositionEnd) old new was job before now = (job ≡ Idle) × (new ≡ after_gather was old new) × (now ≡ before)
 IsOutcome (Err (faults.Down fault)) old new was job before now = (job ≡ Idle) × (old.stage ≡ Down fault) × (new ≡ old) × (now ≡ before)
 
--- What a whole job answers in place of its end, with the state after it and the disk's counts before and after it. It
--- comes to the positions' end where the next record, a cover included, would end past the last one.
+-- What a whole job answers in place of its end, with the state after it and the disk's counts before and after it. After
+-- a failed home write a sector is still dirty, and the store goes on. The job comes to the positions' end where the next record, a cover included, would end past the last one.
 abbrev pub IsFault : StoreFault → Job → State → ℕ → ℕ → Type 0
-IsFault WriteFault job new before now = Rose before now
+IsFault WriteFault job new before now = Rose before now × (LogFails new job now ⊎ ((new.stage ≡ Free) × (new.dirty ≢ [])))
 IsFault FlushFault job new before now = Rose before now × (new.stage ≡ Down now)
 IsFault PositionEnd job new before now = (new.stage ≡ Free) × EndsPast (goal_of job) new (length new.batch)
 IsFault (faults.Down fault) job new before now = new.stage ≡ Down fault
