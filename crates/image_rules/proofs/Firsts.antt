@@ -104,7 +104,7 @@ before_bitmap P a b c d e bitmap lt = absurd (omega arith)
 before_bitmap P a b c d e pointers lt = absurd (omega arith)
 before_bitmap P a b c d e lists lt = absurd (omega arith)
 
-in_order : (g : Geometry) (group a b : ℕ) → a ≤ b → sector_in g group a ≤ sector_in g group b
+pub in_order : (g : Geometry) (group a b : ℕ) → a ≤ b → sector_in g group a ≤ sector_in g group b
 unfolding sector_in
 in_order g group a b le = omega arith
 
@@ -187,15 +187,13 @@ up_to_bitmap P u v w x y z lists le = absurd (omega arith)
 -- ---- faults
 
 pub core_fault : (g : Geometry) (image : List Sector) (group : ℕ) (fault : CheckFault) → HoldsIn g image header group → HoldsIn g image tree group → CoreFault g image group fault → FaultIn g image group fault
-core_fault g image group (Damaged number s) one two is = (omega (arith, is.0), subst (λ (n : ℕ). IsFirstIn g image group n s) (sym is.0) (core_first g image group s one two is.1))
+core_fault g image group (Damaged number s) one two is = subst (λ (n : ℕ). IsFirstIn g image group n s) (sym is.0) (core_first g image group s one two is.1)
 core_fault g image group ReadFault one two is = tt
 core_fault g image group NoMemory one two is = tt
 
 pub bitmap_fault : (g : Geometry) (image : List Sector) (group : ℕ) (fault : CheckFault) → HoldsIn g image header group → HoldsIn g image tree group → HoldsIn g image core group → HoldsIn g image fork group
     → HoldsIn g image blocks group → BitmapFault g image group fault → FaultIn g image group fault
-bitmap_fault g image group (Damaged number s) one two three four five is = (
-  omega (arith, is.0),
-  subst (λ (n : ℕ). IsFirstIn g image group n s) (sym is.0) (bitmap_first g image group s is.1.place one two three four five is.1.at is.1.low is.1.before is.1.wrong),
-)
+bitmap_fault g image group (Damaged number s) one two three four five is =
+    subst (λ (n : ℕ). IsFirstIn g image group n s) (sym is.0) (bitmap_first g image group s is.1.place one two three four five is.1.at is.1.low is.1.before is.1.wrong)
 bitmap_fault g image group ReadFault one two three four five is = tt
 bitmap_fault g image group NoMemory one two three four five is = tt

@@ -215,10 +215,6 @@ pub live_of : (g : Geometry) (image : List Sector) (group agino : ℕ) (free : B
 live_of g image group agino true inode e = ap (λ (o : Option Row). is_some o) e
 live_of g image group agino false inode e = ap (λ (o : Option Row). is_some o) e
 
-pub reached : (g : Geometry) (image : List Sector) (group bound agino : ℕ) (bytes : List ℕ) (free : Bool) (map : List Bool) (fork shared : Option ℕ) → IsNext g image group bound agino bytes free
-    → Gathered g image group bound map fork shared → Gathered g image group agino map fork shared
-reached g image group bound agino bytes free map fork shared next was = Gathered-wider g image group bound agino map fork shared next.from next.none was
-
 pub sector_next : (g : Geometry) (group start i : ℕ) → sector_in g group (start + i) ≡ sector_in g group start + i
 unfolding sector_in
 sector_next g group start i = omega arith

@@ -10,3 +10,6 @@ pub mod Zeros
 pub mod Gathering
 pub mod Walking
 pub mod Bitmapping
+pub mod Noting
+pub mod Strolls
+pub mod Finding

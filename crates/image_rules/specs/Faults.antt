@@ -15,9 +15,9 @@ pub record IsFirstIn (g : Geometry) (image : List Sector) (group number s : ℕ)
   pub broken : BreaksIn g image rule group s
   pub least : (other : ℕ) → BreaksIn g image rule group other → s ≤ other
 
--- damage is the first of the group, by a rule up to that of the bitmap; other faults say nothing of it
+-- damage is the first of the group; other faults say nothing of it
 abbrev pub FaultIn : Geometry → List Sector → ℕ → CheckFault → Type 0
-FaultIn g image group (Damaged number s) = (number ≤ 10) × IsFirstIn g image group number s
+FaultIn g image group (Damaged number s) = IsFirstIn g image group number s
 FaultIn g image group ReadFault = ⊤
 FaultIn g image group NoMemory = ⊤
 
@@ -36,3 +36,7 @@ IsCaused before now NoMemory = ⊤
 -- all rules up to that of the bitmap hold in a group
 abbrev pub SpaceHolds : Geometry → List Sector → ℕ → Type 0
 SpaceHolds g image group = (rule : Rule) → number_of rule ≤ 10 → HoldsIn g image rule group
+
+-- all rules hold in a group
+abbrev pub AllHold : Geometry → List Sector → ℕ → Type 0
+AllHold g image group = (rule : Rule) → HoldsIn g image rule group

@@ -2,3 +2,4 @@ pub mod Shown
 pub mod Faults
 pub mod Taking
 pub mod Gathered
+pub mod Listing

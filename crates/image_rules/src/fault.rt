@@ -18,6 +18,10 @@ pub(crate) const BLOCKS_RULE: u32 = 9;
 
 pub(crate) const BITMAP_RULE: u32 = 10;
 
+pub(crate) const POINTERS_RULE: u32 = 11;
+
+pub(crate) const LISTS_RULE: u32 = 12;
+
 /// Why there is no answer that all is sound.
 #[derive(Clone, Copy, Debug, PartialEq, Eq)]
 pub enum CheckFault {

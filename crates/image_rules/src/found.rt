@@ -14,6 +14,7 @@ ghost use Rattle.sound_image.specs.Reading.{core_of, inode_at, records_of};
 ghost use Rattle.sound_image.specs.Rules.{IsCoreRight, IsInData};
 ghost use Rattle.image_rules.specs.Faults.{IsCaused};
 ghost use Rattle.image_rules.specs.Gathered.{Gathered, IsNext, IsNextChunk, CoreFault, row_unless};
+ghost use Rattle.image_rules.specs.Listing.{IsFound};
 ghost use Rattle.image_rules.specs.declared.fault.CheckFault.TheVariants.{NoMemory};
 ghost use Rattle.image_rules.specs.Shown.{Shows};
 ghost use Rattle.image_rules.specs.Taking.{Adds};
@@ -21,6 +22,7 @@ ghost use Rattle.image_rules.specs.Taking.{Adds};
 use crate::fault::{CORE_RULE, CheckFault};
 use crate::groups::sector_at;
 use crate::inodes::{right_blocks, right_core};
+use crate::links::Links;
 use crate::taken::{data_blocks, occupy_chunks, take_all};
 use extent_fork::ForkFault;
 use free_map::FreeMap;
@@ -40,14 +42,16 @@ pub(crate) struct Found {
     pub(crate) fork: Option<u64>,
     /// The sector of the first inode that has a block which is not its own.
     pub(crate) shared: Option<u64>,
+    /// The next pointers.
+    pub(crate) links: Links,
 }
 
 impl Found {
     /// Before the first inode of a group of so many blocks with these chunks.
-    pub(crate) fn new(blocks: u32, chunks: &[ChunkRec]) -> Found
+    pub(crate) fn new(alloc: Global, blocks: u32, chunks: &[ChunkRec]) -> Found
         requires { blocks ≤ MAX_BLOCKS }
         ensures { (g : Geometry) (image : List Sector) (group : ℕ) → g.blocks ≡ blocks → records_of g image group ≡ chunks.now
-            → Gathered g image group 0 result.map result.fork result.shared }
+            → IsFound g image group 0 result }
     {
         let mut map = data_blocks(blocks);
         occupy_chunks(&mut map, chunks);
@@ -55,12 +59,14 @@ impl Found {
             map,
             fork: None,
             shared: None,
+            links: Links::new(alloc),
         }
     }
 
     /// Takes the blocks of an inode whose sector is `at`.
     fn add_blocks(&mut self, at: u64, blocks: &[u32])
         ensures fork { self.new.fork ≡ self.old.fork }
+        ensures links { self.new.links ≡ self.old.links }
         ensures blocks { Adds self.old.map self.old.shared at blocks.now self.new.map self.new.shared }
     {
         if !take_all(&mut self.map, blocks) {
@@ -86,6 +92,7 @@ impl Found {
             → inode_at g.now image group agino ≡ Some inode → inode.row ≡ row_unless g.now image group agino false → IsCoreRight g.now image group agino inode
             → Gathered g.now image group agino self.old.map self.old.fork self.old.shared
             → OnOk result (Gathered g.now image group (agino + 1) self.new.map self.new.fork self.new.shared) }
+        ensures links { self.new.links ≡ self.old.links }
         ensures memory { IfErr result (λ fault. fault ≡ NoMemory) }
     {
         let at = sector_at(g, group, agino);
@@ -116,10 +123,10 @@ impl Found {
         requires inside { group < g.now.groups }
         requires low { agino < group_sectors g.now }
         ensures taken { (image : List Sector) (bound : ℕ) → IsNext g.now image group bound agino sector.now.bytes free
-            → Gathered g.now image group bound self.old.map self.old.fork self.old.shared
-            → OnOk result (Gathered g.now image group (agino + 1) self.new.map self.new.fork self.new.shared) }
+            → IsFound g.now image group bound self.old
+            → OnOk result (IsFound g.now image group (agino + 1) self.new) }
         ensures wrong { (image : List Sector) (bound : ℕ) → IsNext g.now image group bound agino sector.now.bytes free
-            → Gathered g.now image group bound self.old.map self.old.fork self.old.shared → IfErr result (CoreFault g.now image group) }
+            → IsFound g.now image group bound self.old → IfErr result (CoreFault g.now image group) }
         ensures no_read { (before now : ℕ) → IfErr result (IsCaused before now) }
     {
         let Some(core) = right_core(g, group, agino, !free, sector) else {
@@ -131,6 +138,7 @@ impl Found {
         if free {
             return Ok(());
         }
+        self.links.note(agino, &core)?;
         self.add_live(alloc, g, group, agino, &core, sector)
     }
 
@@ -149,10 +157,10 @@ impl Found {
         requires in_data { IsInData g.now.blocks chunk.now }
         requires sectors { length sectors.now ≡ CHUNK_INODES }
         ensures taken { (image : List Sector) (bound : ℕ) → IsNextChunk g.now image group bound chunk.now → Shows image (sector_in g.now group chunk.now.start) sectors.now
-            → Gathered g.now image group bound self.old.map self.old.fork self.old.shared
-            → OnOk result (Gathered g.now image group (chunk.now.start + CHUNK_INODES) self.new.map self.new.fork self.new.shared) }
+            → IsFound g.now image group bound self.old
+            → OnOk result (IsFound g.now image group (chunk.now.start + CHUNK_INODES) self.new) }
         ensures wrong { (image : List Sector) (bound : ℕ) → IsNextChunk g.now image group bound chunk.now → Shows image (sector_in g.now group chunk.now.start) sectors.now
-            → Gathered g.now image group bound self.old.map self.old.fork self.old.shared → IfErr result (CoreFault g.now image group) }
+            → IsFound g.now image group bound self.old → IfErr result (CoreFault g.now image group) }
         ensures no_read { (before now : ℕ) → IfErr result (IsCaused before now) }
     {
         for index in 0..CHUNK_INODES {

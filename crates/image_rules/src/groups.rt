@@ -11,6 +11,7 @@ ghost use Rattle.sound_image.specs.Reading.{header_of, records_of};
 ghost use Rattle.sound_image.specs.Rules.{IsHeaderRight, IsInData};
 ghost use Rattle.image_rules.specs.Faults.{FaultIn, IsCaused};
 ghost use Rattle.image_rules.specs.Gathered.{AllGathered, CoreFault};
+ghost use Rattle.image_rules.specs.Listing.{AllNoted};
 
 use crate::fault::{CheckFault, HEADER_RULE, TREE_RULE};
 use crate::found::Found;
@@ -26,7 +27,7 @@ use sound_image::chunks_are_read;
 use std::alloc::Global;
 
 /// The sector of a group's header in the group.
-const HEADER: u32 = 2;
+pub(crate) const HEADER: u32 = 2;
 
 /// The sector of the image at a place of a group.
 pub(crate) fn sector_at(g: &Geometry, group: u32, place: u32) -> u64
@@ -121,14 +122,15 @@ pub(crate) fn check_inodes<V: View>(
     requires size { g.now.groups * group_sectors g.now ≤ V.sector_count view.old }
     requires in_data { All (IsInData g.now.blocks) leaf.now }
     ensures right { IsTrue V.told → records_of g.now (V.image view.old) group ≡ leaf.now
-        → IfOk result (λ found. AllGathered g.now (V.image view.old) group found.map found.fork found.shared) }
+        → IfOk result (λ found. AllGathered g.now (V.image view.old) group found.map found.fork found.shared
+        × AllNoted g.now (V.image view.old) group found.links.orphans.entries found.links.pointing) }
     ensures fault { IsTrue V.told → records_of g.now (V.image view.old) group ≡ leaf.now → IfErr result (CoreFault g.now (V.image view.old) group) }
     ensures cause { IfErr result (IsCaused (V.fault_count view.old) (V.fault_count view.new)) }
     ensures only_read { V.only_read view.old view.new }
 {
     chunks_are_read();
     let chunks = leaf.chunks();
-    let mut found = Found::new(g.blocks, chunks);
+    let mut found = Found::new(alloc, g.blocks, chunks);
     for chunk in chunks {
         let at = sector_at(g, group, chunk.start);
         let sectors = read_sectors(alloc, view, at, u64::from(CHUNK_INODES))?;

@@ -7,6 +7,8 @@ mod found;
 mod groups;
 mod headers;
 mod inodes;
+mod links;
+mod lists;
 mod pages;
 mod reading;
 mod space;
@@ -16,7 +18,7 @@ pub use fault::CheckFault;
 pub use headers::right_header;
 pub use inodes::{right_blocks, right_core};
 pub use pages::{has_counts, right_leaf};
-pub use space::check_space;
+pub use space::check_group;
 
 #[cfg(test)]
 mod tests;

@@ -1,34 +1,43 @@
-//! A group by the rules from that of its header up to that of its bitmap.
+//! A group by all its rules.
 
-ghost use Rattle.std.specs.Prelude.{◌≡◌, ◌≤◌, ◌<◌, ◌*◌, IsTrue, IfOk, IfErr};
+ghost use Rattle.std.specs.Prelude.{◌≡◌, ◌≤◌, ◌<◌, ◌*◌, IsTrue, IfOk, IfErr, OnOk};
 ghost use Rattle.geometry.specs.Places.{group_sectors};
 ghost use Rattle.geometry.specs.Shape.{IsGeometry};
 ghost use Rattle.sound_image.specs.Damage.{Rule, number_of, HoldsIn};
 ghost use Rattle.sound_image.specs.Reading.{header_of, records_of};
-ghost use Rattle.image_rules.specs.Faults.{FaultIn, IsCaused, SpaceHolds};
+ghost use Rattle.image_rules.specs.Faults.{AllHold, FaultIn, IsCaused, SpaceHolds};
+ghost use Rattle.image_rules.specs.Listing.{AllNoted};
 
 use crate::bitmaps::check_bitmap;
 use crate::fault::{BLOCKS_RULE, CheckFault, FORK_RULE};
 use crate::groups::{check_header, check_inodes, check_leaf};
+use crate::links::Links;
+use crate::lists::check_lists;
 use ag_header::Agi;
 use disk_model::View;
 use geometry::Geometry;
 use sound_image::chunks_are_read;
 use std::alloc::Global;
 
-/// Judges a group by its header, its inode btree, the cores and forks of its inodes, who has which block, and its bitmap: rules 5 to 10.
-/// The answer is its header, which counts its inodes. Each sector is read once; the two rules on unlinked lists are not judged.
-pub fn check_space<V: View>(
+/// What the rules on unlinked lists are judged by.
+#[derive(Drop)]
+struct Space {
+    header: Agi,
+    links: Links,
+}
+
+/// Judges a group by its header, its inode btree, the cores and forks of its inodes, who has which block, and its bitmap.
+fn check_space<V: View>(
     alloc: Global,
     view: &mut V,
     g: &Geometry,
     group: u32,
-) -> Result<Agi, CheckFault>
+) -> Result<Space, CheckFault>
     requires shape { IsGeometry g.now }
     requires inside { group < g.now.groups }
     requires size { g.now.groups * group_sectors g.now ≤ V.sector_count view.old }
-    // Where the view tells, these rules hold where it is Ok, and damage is the first of the group.
-    ensures right { IsTrue V.told → IfOk result (λ agi. SpaceHolds g.now (V.image view.old) group × (header_of g.now (V.image view.old) group ≡ agi)) }
+    ensures right { IsTrue V.told → IfOk result (λ space. SpaceHolds g.now (V.image view.old) group × (header_of g.now (V.image view.old) group ≡ space.header)
+        × AllNoted g.now (V.image view.old) group space.links.orphans.entries space.links.pointing) }
     ensures damaged { IsTrue V.told → IfErr result (FaultIn g.now (V.image view.old) group) }
     ensures read_fault { IfErr result (IsCaused (V.fault_count view.old) (V.fault_count view.new)) }
     ensures only_read { V.only_read view.old view.new }
@@ -50,5 +59,29 @@ pub fn check_space<V: View>(
         });
     }
     check_bitmap(alloc, view, g, group, &found.map)?;
-    Ok(agi)
+    Ok(Space {
+        header: agi,
+        links: found.links,
+    })
+}
+
+/// Judges a group by all its rules: its header, its inode btree, the cores and forks of its inodes, who has which block, its bitmap, the pointers of its
+/// unlinked buckets, and who is in their lists. Each sector is read once; a bucket is walked in memory, and costs its members.
+pub fn check_group<V: View>(
+    alloc: Global,
+    view: &mut V,
+    g: &Geometry,
+    group: u32,
+) -> Result<(), CheckFault>
+    requires shape { IsGeometry g.now }
+    requires inside { group < g.now.groups }
+    requires size { g.now.groups * group_sectors g.now ≤ V.sector_count view.old }
+    // Where the view tells, the rules hold where it is Ok, and damage is the first of the group.
+    ensures right { IsTrue V.told → OnOk result (AllHold g.now (V.image view.old) group) }
+    ensures damaged { IsTrue V.told → IfErr result (FaultIn g.now (V.image view.old) group) }
+    ensures read_fault { IfErr result (IsCaused (V.fault_count view.old) (V.fault_count view.new)) }
+    ensures only_read { V.only_read view.old view.new }
+{
+    let mut space = check_space(alloc, view, g, group)?;
+    check_lists(g, group, &space.header, &mut space.links)
 }

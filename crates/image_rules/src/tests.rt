@@ -44,20 +44,20 @@ fn empty_group(alloc: Global) -> Result<Vec<Sector>, AllocError>
     Ok(sectors)
 }
 
-fn judged(alloc: Global, sectors: Vec<Sector>) -> Result<Agi, CheckFault> {
+fn judged(alloc: Global, sectors: Vec<Sector>) -> Result<(), CheckFault> {
     let Ok(mut disk) = MemoryDisk::with(alloc, sectors) else {
         return Err(CheckFault::NoMemory);
     };
     if disk.sectors() < 769 {
         return Err(CheckFault::ReadFault);
     }
-    check_space(alloc, &mut DiskView::new(&mut disk), &IMAGE, 0)
+    check_group(alloc, &mut DiskView::new(&mut disk), &IMAGE, 0)
 }
 
 #[test]
 fn empty_group_is_right_and_its_damages_are_named(rt: HostRuntime) -> Result<(), Fail> {
     let alloc = rt.alloc();
-    assert_eq!(rt; judged(alloc, empty_group(alloc)?), Ok(EMPTY));
+    assert_eq!(rt; judged(alloc, empty_group(alloc)?), Ok(()));
     for (at, rule, sector) in [(2, 5, 2), (20, 6, 16), (8, 10, 8), (11, 10, 11)] {
         let mut sectors = empty_group(alloc)?;
         sectors[at].bytes[5] ^= 1;

@@ -1,11 +1,13 @@
-use Rattle.std.proofs.Common.{ℕ, List, All, get_or, sym, subst, ◌∙◌, arith, rules}
+use Rattle.std.proofs.Common.{◌≡◌, ◌≤◌, ℕ, List, All, None, get_or, sym, subst, ◌∙◌, arith, rules}
 use Rattle.life_bytes.specs.declared.sector.Sector.{Sector}
 use Rattle.inobt_leaf.specs.declared.chunk.ChunkRec.{ChunkRec}
 use Rattle.inobt_leaf.specs.Chunks.{IsLeaf}
 use Rattle.sound_image.specs.Places.{sector_in}
+use Rattle.sound_image.specs.Reading.{inode_at}
 use Rattle.sound_image.specs.Rules.{IsInData}
 use Rattle.image_rules.specs.Faults.{IsCaused}
-use Rattle.image_rules.specs.Gathered.{Gathered, CoreFault, IsNextChunk}
+use Rattle.image_rules.specs.Gathered.{CoreFault, IsNextChunk}
+use Rattle.image_rules.specs.Listing.{IsFound}
 use Rattle.image_rules.specs.Shown.{Shows}
 use Rattle.image_rules.proofs.Outcomes.{passed_up}
 use Rattle.image_rules.proofs.Walking.{blank, bound_at, bound_none, bound_more, next_chunk, none_after}
@@ -17,7 +19,7 @@ loop-chunk-init g c =
     record {
       read = g.met.V.View.no_read a.view.now;
       gathered = λ told same.
-          subst (λ (n : ℕ). Gathered a.g.now (g.V.View.image a.view.now) a.group n c.new-found.result.map c.new-found.result.fork c.new-found.result.shared) (sym (bound_none c.chunks-chunks.result.now))
+          subst (λ (n : ℕ). IsFound a.g.now (g.V.View.image a.view.now) a.group n c.new-found.result) (sym (bound_none c.chunks-chunks.result.now))
           (c.new-found.ensures a.g.now (g.V.View.image a.view.now) a.group (search rules) (same ∙ sym c.chunks-chunks.ensures.all));
     }
 
@@ -74,8 +76,7 @@ loop-chunk-preserved g c = record {
       let read : Shows image c.sector_at-at.result c.in_ok-sectors.sectors.items = subst (λ (l : List Sector). Shows l c.sector_at-at.result c.in_ok-sectors.sectors.items) stays (c.in_ok-sectors.ensures.shown told) in
       let shows : Shows image (sector_in a.g.now a.group (get_or chunks i blank).start) c.deref.result.now =
       subst (λ (s : ℕ). Shows image s c.deref.result.now) c.sector_at-at.ensures.place (subst (Shows image c.sector_at-at.result) (sym c.deref.ensures.value) read) in
-      let f = c.add_chunk.new.self in
-      subst (λ (n : ℕ). Gathered a.g.now image a.group n f.map f.fork f.shared) (sym (bound_more chunks i))
+      subst (λ (n : ℕ). IsFound a.g.now image a.group n c.add_chunk.new.self) (sym (bound_more chunks i))
       (c.in_ok-add_chunk.ensures.taken image (bound_at chunks i) next shows (c.loop-chunk.invariant.gathered told same));
 }
 
@@ -85,9 +86,10 @@ returns-clause-right g c told same =
     let image : List Sector = g.V.View.image a.view.now in
     let chunks : List ChunkRec = c.chunks-chunks.result.now in
     let leaf : IsLeaf chunks = subst IsLeaf (sym c.chunks-chunks.ensures.all) c.chunks-chunks.ensures.leaf in
-    record {
-      bound = bound_at chunks c.loop-chunk.chunk-index;
-      none = λ agino from. none_after a.g.now image a.group chunks c.loop-chunk.chunk-index agino (same ∙ sym c.chunks-chunks.ensures.all) leaf
-          (λ other inode e. c.chunks_are_read.ensures.only a.g.now image a.group other inode e) (omega arith) from;
-      gathered = c.loop-chunk.invariant.gathered told same;
-    }
+    let after : (agino : ℕ) → bound_at chunks c.loop-chunk.chunk-index ≤ agino → inode_at a.g.now image a.group agino ≡ None =
+    λ agino from. none_after a.g.now image a.group chunks c.loop-chunk.chunk-index agino (same ∙ sym c.chunks-chunks.ensures.all) leaf
+    (λ other inode e. c.chunks_are_read.ensures.only a.g.now image a.group other inode e) (omega arith) from in
+    let found = c.loop-chunk.invariant.gathered told same in (
+      record { bound = bound_at chunks c.loop-chunk.chunk-index; none = after; gathered = found.space },
+      record { bound = bound_at chunks c.loop-chunk.chunk-index; none = after; noted = found.links },
+    )

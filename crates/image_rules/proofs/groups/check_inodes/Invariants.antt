@@ -1,6 +1,6 @@
 use Rattle.std.proofs.Common.{◌≡◌, IsTrue}
 use Rattle.sound_image.specs.Reading.{records_of}
-use Rattle.image_rules.specs.Gathered.{Gathered}
+use Rattle.image_rules.specs.Listing.{IsFound}
 use Rattle.image_rules.proofs.Walking.{bound_at}
 use Rattle.image_rules.proofs.groups.check_inodes.Given as goal
 
@@ -8,5 +8,5 @@ abbrev pub invariant-loop-chunk : goal.invariant-loop-chunk
 invariant-loop-chunk g l = record {
   read : g.V.View.only_read l.fn.view l.view;
   gathered : IsTrue g.V.View.told → records_of l.g (g.V.View.image l.fn.view) l.group ≡ l.leaf
-      → Gathered l.g (g.V.View.image l.fn.view) l.group (bound_at l.chunks l.chunk-index) l.found.map l.found.fork l.found.shared;
+      → IsFound l.g (g.V.View.image l.fn.view) l.group (bound_at l.chunks l.chunk-index) l.found;
 }

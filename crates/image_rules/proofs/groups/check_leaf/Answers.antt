@@ -1,4 +1,4 @@
-use Rattle.std.proofs.Common.{lit≤, ◌≡◌, ℕ, List, ap, sym, subst, ◌∙◌, arith}
+use Rattle.std.proofs.Common.{◌≡◌, ℕ, List, ap, sym, subst, ◌∙◌, arith}
 use Rattle.std.proofs.lemmas.Bool.{false≢true}
 use Rattle.life_bytes.specs.declared.sector.Sector.{Sector}
 use Rattle.ag_header.specs.declared.agi.Agi.{Agi}
@@ -20,11 +20,9 @@ returns-in-Err-Malformed-clause-fault g c told right header =
     let image : List Sector = g.V.View.image a.view.now in
     let place : page_sector a.g.now image a.group ≡ c.sector_at-at.result = page_at a.g.now image a.group a.agi.now header ∙ sym c.sector_at-at.ensures.place in
     let shows : Shows image (page_sector a.g.now image a.group) c.deref.result.now =
-    subst (λ (s : ℕ). Shows image s c.deref.result.now) (sym place) (subst (Shows image c.sector_at-at.result) (sym c.deref.ensures.value) (c.in_ok-page.ensures.shown told)) in (
-      lit≤ tt,
-      page_first a.g.now image a.group c.sector_at-at.result right (sym place)
-          (c.in-Err-Malformed.ensures.wrong image (ap (λ (x : Agi). x.root) header) shows (cc)),
-    )
+    subst (λ (s : ℕ). Shows image s c.deref.result.now) (sym place) (subst (Shows image c.sector_at-at.result) (sym c.deref.ensures.value) (c.in_ok-page.ensures.shown told)) in
+    page_first a.g.now image a.group c.sector_at-at.result right (sym place)
+    (c.in-Err-Malformed.ensures.wrong image (ap (λ (x : Agi). x.root) header) shows (cc))
 
 pub returns-then-not-has_counts-clause-fault : goal.returns-then-not-has_counts-clause-fault
 returns-then-not-has_counts-clause-fault g c told right header =
@@ -33,11 +31,9 @@ returns-then-not-has_counts-clause-fault g c told right header =
     let place : page_sector a.g.now image a.group ≡ c.sector_at-at.result = page_at a.g.now image a.group a.agi.now header ∙ sym c.sector_at-at.ensures.place in
     let shows : Shows image (page_sector a.g.now image a.group) c.deref.result.now =
     subst (λ (s : ℕ). Shows image s c.deref.result.now) (sym place) (subst (Shows image c.sector_at-at.result) (sym c.deref.ensures.value) (c.in_ok-page.ensures.shown told)) in
-    let page = c.in-Ok.ensures.right image (ap (λ (x : Agi). x.root) header) shows in (
-      lit≤ tt,
-      counts_first a.g.now image a.group c.sector_at.result right page.0 c.sector_at.ensures.place
-          (λ counts. false≢true (sym c.if-not-has_counts.true ∙ c.has_counts.ensures.1 (counts_to a.g.now image a.group a.agi.now c.in-Ok.leaf header page.1 counts))),
-    )
+    let page = c.in-Ok.ensures.right image (ap (λ (x : Agi). x.root) header) shows in
+    counts_first a.g.now image a.group c.sector_at.result right page.0 c.sector_at.ensures.place
+    (λ counts. false≢true (sym c.if-not-has_counts.true ∙ c.has_counts.ensures.1 (counts_to a.g.now image a.group a.agi.now c.in-Ok.leaf header page.1 counts)))
 
 pub returns-clause-right : goal.returns-clause-right
 returns-clause-right g c told header =

@@ -1,4 +1,4 @@
-use Rattle.std.proofs.Common.{lit≤, ◌≡◌, ℕ, List, Option, None, ap, sym, subst, ◌∙◌}
+use Rattle.std.proofs.Common.{◌≡◌, ℕ, List, Option, None, ap, sym, subst, ◌∙◌}
 use Rattle.life_bytes.specs.declared.sector.Sector.{Sector}
 use Rattle.inobt_leaf.specs.Chunks.{IsLeaf}
 use Rattle.sound_image.specs.Damage.{Rule, HoldsIn, tree, bitmap}
@@ -6,6 +6,7 @@ use Rattle.sound_image.specs.Reading.{header_of, records_of, group_read}
 use Rattle.sound_image.specs.Rules.{free_set}
 use Rattle.image_rules.specs.Faults.{FaultIn}
 use Rattle.image_rules.specs.Gathered.{AllGathered, BitmapFault, CoreFault, FirstFork, FirstShared, ForksBelow, BlocksBelow}
+use Rattle.image_rules.specs.Listing.{AllNoted}
 use Rattle.image_rules.proofs.Bitmapping.{left_is_free}
 use Rattle.image_rules.proofs.Firsts.{core_fault, bitmap_fault, fork_first, blocks_first, cores_hold, forks_hold, blocks_hold, up_to_bitmap}
 use Rattle.image_rules.proofs.Outcomes.{passed_up}
@@ -40,10 +41,10 @@ returns-in-Some-clause-damaged g c told =
     (c.in_ok-leaf.ensures.right told (ap (λ (l : List Sector). header_of k l a.group) same1 ∙ header.1)) in
     let records2 = ap (λ (l : List Sector). records_of k l a.group) same2 ∙ leaf.1 in
     let f = c.in_ok-found.found in
-    let all = subst (λ (l : List Sector). AllGathered k l a.group f.map f.fork f.shared) same2 (c.in_ok-found.ensures.right told records2) in
+    let all = subst (λ (l : List Sector). AllGathered k l a.group f.map f.fork f.shared) same2 (c.in_ok-found.ensures.right told records2).0 in
     let cores = cores_hold k image a.group f.map f.fork f.shared all in
     let first : FirstFork k image a.group c.in-Some.sector = subst (ForksBelow k image a.group all.bound) c.in-Some.is all.gathered.forks in
-    (lit≤ tt, fork_first k image a.group c.in-Some.sector header.0 leaf.0 cores first)
+    fork_first k image a.group c.in-Some.sector header.0 leaf.0 cores first
 
 pub returns-in-Some-shared-clause-damaged : goal.returns-in-Some-shared-clause-damaged
 returns-in-Some-shared-clause-damaged g c told =
@@ -58,13 +59,13 @@ returns-in-Some-shared-clause-damaged g c told =
     (c.in_ok-leaf.ensures.right told (ap (λ (l : List Sector). header_of k l a.group) same1 ∙ header.1)) in
     let records2 = ap (λ (l : List Sector). records_of k l a.group) same2 ∙ leaf.1 in
     let f = c.in_ok-found.found in
-    let all = subst (λ (l : List Sector). AllGathered k l a.group f.map f.fork f.shared) same2 (c.in_ok-found.ensures.right told records2) in
+    let all = subst (λ (l : List Sector). AllGathered k l a.group f.map f.fork f.shared) same2 (c.in_ok-found.ensures.right told records2).0 in
     let cores = cores_hold k image a.group f.map f.fork f.shared all in
     let no_fork : f.fork ≡ None = c.in_default.is in
     let all1 = subst (λ (o : Option ℕ). AllGathered k image a.group f.map o f.shared) no_fork all in
     let forks = forks_hold k image a.group f.map f.shared all1 in
     let first : FirstShared k image a.group c.in-Some-shared.sector = subst (BlocksBelow k image a.group all.bound) c.in-Some-shared.is (all.gathered.blocks no_fork) in
-    (lit≤ tt, blocks_first k image a.group c.in-Some-shared.sector header.0 leaf.0 cores forks first)
+    blocks_first k image a.group c.in-Some-shared.sector header.0 leaf.0 cores forks first
 
 pub returns-in_err-check_bitmap-clause-damaged : goal.returns-in_err-check_bitmap-clause-damaged
 returns-in_err-check_bitmap-clause-damaged g c told =
@@ -79,7 +80,7 @@ returns-in_err-check_bitmap-clause-damaged g c told =
     (c.in_ok-leaf.ensures.right told (ap (λ (l : List Sector). header_of k l a.group) same1 ∙ header.1)) in
     let records2 = ap (λ (l : List Sector). records_of k l a.group) same2 ∙ leaf.1 in
     let f = c.in_ok-found.found in
-    let all = subst (λ (l : List Sector). AllGathered k l a.group f.map f.fork f.shared) same2 (c.in_ok-found.ensures.right told records2) in
+    let all = subst (λ (l : List Sector). AllGathered k l a.group f.map f.fork f.shared) same2 (c.in_ok-found.ensures.right told records2).0 in
     let cores = cores_hold k image a.group f.map f.fork f.shared all in
     let no_fork : f.fork ≡ None = c.in_default.is in
     let all1 = subst (λ (o : Option ℕ). AllGathered k image a.group f.map o f.shared) no_fork all in
@@ -110,7 +111,7 @@ returns-clause-right g c told =
     (c.in_ok-leaf.ensures.right told (ap (λ (l : List Sector). header_of k l a.group) same1 ∙ header.1)) in
     let records2 = ap (λ (l : List Sector). records_of k l a.group) same2 ∙ leaf.1 in
     let f = c.in_ok-found.found in
-    let all = subst (λ (l : List Sector). AllGathered k l a.group f.map f.fork f.shared) same2 (c.in_ok-found.ensures.right told records2) in
+    let all = subst (λ (l : List Sector). AllGathered k l a.group f.map f.fork f.shared) same2 (c.in_ok-found.ensures.right told records2).0 in
     let cores = cores_hold k image a.group f.map f.fork f.shared all in
     let no_fork : f.fork ≡ None = c.in_default.is in
     let all1 = subst (λ (o : Option ℕ). AllGathered k image a.group f.map o f.shared) no_fork all in
@@ -124,5 +125,8 @@ returns-clause-right g c told =
     (λ place i chunk is at low. c.chunks_are_read.ensures.found k image a.group place i chunk is at low)
     (λ agino inode e. c.chunks_are_read.ensures.only k image a.group agino inode e) all.none (all.gathered.left no_fork no_shared) in
     let free3 = free ∙ ap (λ (l : List Sector). free_set k.blocks (group_read k l a.group)) (sym same3) in
-    let bits = subst (λ (l : List Sector). HoldsIn k l bitmap a.group) same3 (c.in_ok-check_bitmap.ensures.right told free3) in
-    (up_to_bitmap (λ (rule : Rule). HoldsIn k image rule a.group) header.0 leaf.0 cores forks alone bits, header.1)
+    let bits = subst (λ (l : List Sector). HoldsIn k l bitmap a.group) same3 (c.in_ok-check_bitmap.ensures.right told free3) in (
+      up_to_bitmap (λ (rule : Rule). HoldsIn k image rule a.group) header.0 leaf.0 cores forks alone bits,
+      header.1,
+      subst (λ (l : List Sector). AllNoted k l a.group f.links.orphans.entries f.links.pointing) same2 (c.in_ok-found.ensures.right told records2).1,
+    )

@@ -1,7 +1,9 @@
 use Rattle.std.proofs.Common.{◌≡◌, ◌+◌, ℕ, [], subst, arith}
 use Rattle.image_rules.specs.Faults.{IsCaused}
-use Rattle.image_rules.specs.Gathered.{Gathered, CoreFault}
-use Rattle.image_rules.proofs.Gathering.{Gathered-wider, next_of}
+use Rattle.image_rules.specs.Gathered.{CoreFault}
+use Rattle.image_rules.specs.Listing.{IsFound}
+use Rattle.image_rules.proofs.Finding.{IsFound-wider}
+use Rattle.image_rules.proofs.Gathering.{next_of}
 use Rattle.image_rules.proofs.Outcomes.{passed_up}
 use Rattle.image_rules.proofs.found.Found.add_chunk.Goals as goal
 
@@ -9,8 +11,8 @@ pub loop-index-init : goal.loop-index-init
 loop-index-init c image bound next shows was =
     let a = c.args in
     let e : a.chunk.now.start ≡ a.chunk.now.start + 0 = omega arith in
-    subst (λ (n : ℕ). Gathered a.g.now image a.group n a.self.now.map a.self.now.fork a.self.now.shared) e
-    (Gathered-wider a.g.now image a.group bound a.chunk.now.start a.self.now.map a.self.now.fork a.self.now.shared next.from next.none was)
+    subst (λ (n : ℕ). IsFound a.g.now image a.group n a.self.now) e
+    (IsFound-wider a.g.now image a.group bound a.chunk.now.start a.self.now next.from next.none was)
 
 pub returns-in_err-add-clause-wrong : goal.returns-in_err-add-clause-wrong
 returns-in_err-add-clause-wrong c image bound next shows was =
@@ -32,7 +34,7 @@ loop-index-preserved c image bound next shows was =
     let start : ℕ = a.chunk.now.start in
     let i : ℕ = c.loop-index.index in
     let e : start + i + 1 ≡ start + (i + 1) = omega arith in
-    subst (λ (n : ℕ). Gathered a.g.now image a.group n c.add.new.self.map c.add.new.self.fork c.add.new.self.shared) e
+    subst (λ (n : ℕ). IsFound a.g.now image a.group n c.add.new.self) e
     (c.in_ok-add.ensures.taken image (start + i)
     (next_of a.g.now image a.group bound a.chunk.now a.sectors.now i (record { bytes = [] }) c.is_free-free.result next shows c.requires.sectors c.loop-index-test.true c.is_free-free.ensures)
     (c.loop-index.invariant image bound next shows was))
@@ -41,4 +43,4 @@ pub returns-clause-taken : goal.returns-clause-taken
 returns-clause-taken c image bound next shows was =
     let a = c.args in
     let e : c.loop-index.index ≡ 64 = omega (arith, c.loop-index.auto.index-end) in
-    subst (λ (n : ℕ). Gathered a.g.now image a.group (a.chunk.now.start + n) c.loop-index.self.map c.loop-index.self.fork c.loop-index.self.shared) e (c.loop-index.invariant image bound next shows was)
+    subst (λ (n : ℕ). IsFound a.g.now image a.group (a.chunk.now.start + n) c.loop-index.self) e (c.loop-index.invariant image bound next shows was)

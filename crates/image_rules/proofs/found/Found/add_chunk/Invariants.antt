@@ -1,11 +1,11 @@
 use Rattle.std.proofs.Common.{◌+◌, ℕ, List}
 use Rattle.life_bytes.specs.declared.sector.Sector.{Sector}
 use Rattle.sound_image.specs.Places.{sector_in}
-use Rattle.image_rules.specs.Gathered.{Gathered, IsNextChunk}
+use Rattle.image_rules.specs.Gathered.{IsNextChunk}
+use Rattle.image_rules.specs.Listing.{IsFound}
 use Rattle.image_rules.specs.Shown.{Shows}
 use Rattle.image_rules.proofs.found.Found.add_chunk.Given as goal
 
 abbrev pub invariant-loop-index : goal.invariant-loop-index
 invariant-loop-index l = (image : List Sector) (bound : ℕ) → IsNextChunk l.g image l.group bound l.chunk → Shows image (sector_in l.g l.group l.chunk.start) l.sectors
-    → Gathered l.g image l.group bound l.fn.self.map l.fn.self.fork l.fn.self.shared
-    → Gathered l.g image l.group (l.chunk.start + l.index) l.self.map l.self.fork l.self.shared
+    → IsFound l.g image l.group bound l.fn.self → IsFound l.g image l.group (l.chunk.start + l.index) l.self
