@@ -15,7 +15,7 @@ ends_right g image group bucket n ends wrong =
       | inr (inr gt) ↦ (wrong.before ends.count gt).member.some ends.end
     ]
 
-not_both : (g : Geometry) (image : List Sector) (rule : Rule) (group s : ℕ) → HoldsIn g image rule group → BreaksIn g image rule group s → ⊥
+pub not_both : (g : Geometry) (image : List Sector) (rule : Rule) (group s : ℕ) → HoldsIn g image rule group → BreaksIn g image rule group s → ⊥
 not_both g image header group s h b = b.1 h
 not_both g image tree group s h (inl b) = b.1 h.0
 not_both g image tree group s h (inr b) = b.2 h.1
@@ -29,7 +29,7 @@ not_both g image lists group s h b = b.4 (h b.0 b.1 b.3)
 pub unbroken : (g : Geometry) (image : List Sector) (rule : Rule) (s : ℕ) → Holds g image rule → Breaks g image rule s → ⊥
 unbroken g image rule s h b = not_both g image rule b.0 s (h b.0 b.1) b.2
 
-same_rule : (a b : Rule) → number_of a ≡ number_of b → a ≡ b
+pub same_rule : (a b : Rule) → number_of a ≡ number_of b → a ≡ b
 same_rule header header e = refl
 same_rule tree tree e = refl
 same_rule core core e = refl

@@ -22,7 +22,7 @@ ghost use Rattle.life_table.specs.History.{closed};
 ghost use Rattle.life_table.specs.WellFormed.{IsTable};
 ghost use Rattle.sound_image.specs.Places.{AreSectors, bitmap_place, bitmap_sectors, bytes_at, bytes_from, header_place, number_in, part, sector_in};
 ghost use Rattle.sound_image.specs.Reading.{inode_at, inode_read, IsOfChunk, records_of, rows_of};
-ghost use Rattle.sound_image.specs.Damage.{Rule, FirstDamage, IsSound};
+ghost use Rattle.sound_image.specs.Damage.{Rule, BreaksIn, FirstDamage, HoldsIn, IsSound, number_of};
 ghost use Rattle.sound_image.specs.Rules.{free_set};
 ghost use Rattle.sound_image.specs.Spelling.{Layouts, CanSpell, core_for, header_for, inode_sector, list_of, metadata, next_in, page_bytes, page_place, record_of, spelled};
 ghost use Rattle.sound_image.specs.Stands.{HasSuperblock, IsLongEnough, Stands};
@@ -97,6 +97,12 @@ pub fn spelling_leaves_the_rest()
 pub fn one_first_damage()
     ensures one { (g : Geometry) (image : List Sector) (a b : Rule) (s t : ℕ) → FirstDamage g image a s → FirstDamage g image b t → (a ≡ b) × (s ≡ t) }
     ensures none { (g : Geometry) (image : List Sector) (a : Rule) (s : ℕ) → IsSound g image → ¬ FirstDamage g image a s }
+{}
+
+/// A law: a rule that holds in a group is broken at no sector of it, and no two rules have one number.
+pub fn rules_hold_or_break()
+    ensures not_both { (g : Geometry) (image : List Sector) (rule : Rule) (group s : ℕ) → HoldsIn g image rule group → ¬ BreaksIn g image rule group s }
+    ensures numbers { (a b : Rule) → number_of a ≡ number_of b → a ≡ b }
 {}
 
 /// A law: the table that a sound image has is well formed, and nobody holds an inode of it.
