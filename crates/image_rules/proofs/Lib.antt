@@ -13,3 +13,4 @@ pub mod Bitmapping
 pub mod Noting
 pub mod Strolls
 pub mod Finding
+pub mod Joining

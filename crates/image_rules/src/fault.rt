@@ -32,6 +32,13 @@ pub enum CheckFault {
     NoMemory,
 }
 
+/// A rule that is broken, by its number, and a sector that is named for it.
+#[derive(Clone, Copy)]
+pub(crate) struct Damage {
+    pub(crate) rule: u32,
+    pub(crate) sector: u64,
+}
+
 impl From<Failed> for CheckFault {
     ghost use Rattle.image_rules.specs.declared.fault.CheckFault.TheVariants.{ReadFault};
 

@@ -1,6 +1,7 @@
 //! Whether the groups of an image are sound, decided rule by rule.
 #![tactic(auto)]
 
+mod all_groups;
 mod bitmaps;
 mod fault;
 mod found;
@@ -14,6 +15,7 @@ mod reading;
 mod space;
 mod taken;
 
+pub use all_groups::check_groups;
 pub use fault::CheckFault;
 pub use headers::right_header;
 pub use inodes::{right_blocks, right_core};

@@ -1,0 +1,88 @@
+//! All groups of an image.
+
+ghost use Rattle.std.specs.Prelude.{◌≡◌, ◌≤◌, ◌<◌, ◌+◌, ◌*◌, ℕ, List, IsTrue, IfOk, IfErr, OnOk};
+ghost use Rattle.life_bytes.specs.declared.sector.Sector.{Sector};
+ghost use Rattle.geometry.specs.declared.shape.Geometry.{Geometry};
+ghost use Rattle.geometry.specs.Places.{group_sectors};
+ghost use Rattle.geometry.specs.Shape.{IsGeometry};
+ghost use Rattle.sound_image.specs.Damage.{IsSound};
+ghost use Rattle.image_rules.specs.Faults.{AreJudged, IsCaused, IsEarlier, IsDamage, IsJudged, IsOutside};
+
+use crate::fault::{CheckFault, Damage};
+use crate::space::check_group;
+use disk_model::View;
+use geometry::Geometry;
+use sound_image::rules_hold_or_break;
+use std::alloc::Global;
+
+/// The first damage of a group, if there is one.
+fn judge<V: View>(
+    alloc: Global,
+    view: &mut V,
+    g: &Geometry,
+    group: u32,
+) -> Result<Option<Damage>, CheckFault>
+    requires shape { IsGeometry g.now }
+    requires inside { group < g.now.groups }
+    requires size { g.now.groups * group_sectors g.now ≤ V.sector_count view.old }
+    ensures judged { IsTrue V.told → IfOk result (IsJudged g.now (V.image view.old) group) }
+    ensures outside { IfErr result (IsOutside (V.fault_count view.old) (V.fault_count view.new)) }
+    ensures only_read { V.only_read view.old view.new }
+{
+    match check_group(alloc, view, g, group) {
+        Ok(()) => Ok(None),
+        Err(CheckFault::Damaged { rule, sector }) => Ok(Some(Damage { rule, sector })),
+        Err(CheckFault::ReadFault) => Err(CheckFault::ReadFault),
+        Err(CheckFault::NoMemory) => Err(CheckFault::NoMemory),
+    }
+}
+
+/// Of two damages the one by the lesser rule, and by one rule the one at the lesser sector.
+fn earlier(first: Damage, second: Damage) -> Damage
+    ensures { IsEarlier first second result }
+{
+    if second.rule < first.rule {
+        return second;
+    }
+    if first.rule < second.rule {
+        return first;
+    }
+    if second.sector < first.sector {
+        return second;
+    }
+    first
+}
+
+/// The first damage of the groups up to and with one.
+fn first_of(first: Option<Damage>, second: Option<Damage>) -> Option<Damage>
+    ensures { (g : Geometry) (image : List Sector) (group : ℕ) → AreJudged g image group first → IsJudged g image group second → AreJudged g image (group + 1) result }
+{
+    rules_hold_or_break();
+    match (first, second) {
+        (Some(first), Some(second)) => Some(earlier(first, second)),
+        (first, None) => first,
+        (None, second) => second,
+    }
+}
+
+/// Judges the groups of an image by all rules on groups, from those of their headers up to those of their unlinked lists. The first damage is by the
+/// least rule that is broken in a group, and names the least sector at which it is. Each sector is read once.
+pub fn check_groups<V: View>(alloc: Global, view: &mut V, g: &Geometry) -> Result<(), CheckFault>
+    requires shape { IsGeometry g.now }
+    requires size { g.now.groups * group_sectors g.now ≤ V.sector_count view.old }
+    // Where the view tells, the groups are sound where it is Ok, and damage is the first of them.
+    ensures sound { IsTrue V.told → OnOk result (IsSound g.now (V.image view.old)) }
+    ensures damaged { IsTrue V.told → IfErr result (IsDamage g.now (V.image view.old)) }
+    ensures read_fault { IfErr result (IsCaused (V.fault_count view.old) (V.fault_count view.new)) }
+    ensures only_read { V.only_read view.old view.new }
+{
+    let mut first = None;
+    for group in 0..g.groups {
+        let found = judge(alloc, view, g, group)?;
+        first = first_of(first, found);
+    }
+    match first {
+        None => Ok(()),
+        Some(Damage { rule, sector }) => Err(CheckFault::Damaged { rule, sector }),
+    }
+}
