@@ -179,7 +179,7 @@ impl Found {
 }
 
 /// Whether an inode of a chunk is free, by the chunk's mask.
-fn is_free(chunk: &ChunkRec, index: u32) -> bool
+pub(crate) fn is_free(chunk: &ChunkRec, index: u32) -> bool
     requires { index < CHUNK_INODES }
     ensures { result ≡ is_set chunk.now.mask index }
 {
