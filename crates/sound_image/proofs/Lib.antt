@@ -19,3 +19,4 @@ pub mod Again
 pub mod Opens
 pub mod Standing
 pub mod ByChunks
+pub mod Counting

@@ -36,7 +36,7 @@ inodes_of : (g : Geometry) (image : List Sector) (group : ℕ) (r : ChunkRec) �
 unfolding chunk_read
 inodes_of g image group r = refl
 
-length_inodes : (g : Geometry) (image : List Sector) (group : ℕ) (r : ChunkRec) → length (chunk_read g image group r).inodes ≡ 64
+pub length_inodes : (g : Geometry) (image : List Sector) (group : ℕ) (r : ChunkRec) → length (chunk_read g image group r).inodes ≡ 64
 length_inodes g image group r = ap length (inodes_of g image group r) ∙ length-map-range_with_len (inode_read g image group r) 0 64
 
 -- bits as tests

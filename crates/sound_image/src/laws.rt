@@ -1,6 +1,6 @@
 // Laws of the definitions. Each is the contract of a function that does nothing but call the laws that its own rests on.
 
-ghost use Rattle.std.specs.Prelude.{◌≡◌, ◌≤◌, ◌<◌, ◌*◌, ◌/◌, ◌%◌, ◌+◌, ℕ, List, None, Some, length, map, slice_get, slice_range};
+ghost use Rattle.std.specs.Prelude.{◌≡◌, ◌≤◌, ◌<◌, ◌*◌, ◌/◌, ◌%◌, ◌+◌, ℕ, List, None, Some, length, map, slice_get, slice_range, sum_by};
 ghost use Rattle.life_limits.specs.declared.TheConstants.{BLOCK_SECTORS, BUCKETS, CHUNK_INODES};
 ghost use Rattle.life_bytes.specs.declared.sector.Sector.{Sector};
 ghost use Rattle.life_bytes.specs.SectorBytes.{bytes_of};
@@ -21,7 +21,8 @@ ghost use Rattle.life_table.specs.declared.table.Inode.{Inode};
 ghost use Rattle.life_table.specs.History.{closed};
 ghost use Rattle.life_table.specs.WellFormed.{IsTable};
 ghost use Rattle.sound_image.specs.Places.{AreSectors, bitmap_place, bitmap_sectors, bytes_at, bytes_from, header_place, number_in, part, sector_in};
-ghost use Rattle.sound_image.specs.Reading.{inode_at, inode_read, IsOfChunk, records_of, rows_of};
+ghost use Rattle.sound_image.specs.Reading.{group_read, inode_at, inode_read, IsOfChunk, records_of, rows_of};
+ghost use Rattle.sound_image.specs.Counts.{inodes_in};
 ghost use Rattle.sound_image.specs.Damage.{Rule, BreaksIn, FirstDamage, HoldsIn, IsSound, number_of};
 ghost use Rattle.sound_image.specs.Rules.{free_set};
 ghost use Rattle.sound_image.specs.Spelling.{Layouts, CanSpell, core_for, header_for, inode_sector, list_of, metadata, next_in, page_bytes, page_place, record_of, spelled};
@@ -137,6 +138,19 @@ pub fn chunks_are_read()
         → i < CHUNK_INODES → inode_at g image group (chunk.start + i) ≡ Some (inode_read g image group chunk i) }
     ensures only { (g : Geometry) (image : List Sector) (group agino : ℕ) (inode : Inode) → inode_at g image group agino ≡ Some inode → IsOfChunk g image group agino inode }
 {}
+
+/// A law: a group whose records are those of a leaf has a chunk for each record, and each inode of a chunk is in use or counts as free in its record.
+pub fn groups_are_counted()
+    ensures chunks { (g : Geometry) (image : List Sector) (group : ℕ) → length (group_read g image group) ≡ length (records_of g image group) }
+    ensures inodes { (g : Geometry) (image : List Sector) (group : ℕ) → IsLeaf (records_of g image group)
+        → inodes_in (group_read g image group) + sum_by (λ (chunk : ChunkRec). chunk.free) (records_of g image group) ≡ CHUNK_INODES * length (records_of g image group) }
+{
+    spelled_cores_are_read();
+    spelled_headers_are_read();
+    spelled_pages_are_read();
+    spelled_forks_are_read();
+    numbers_hold_their_bits();
+}
 
 /// A law: an image stands for one table, with one geometry.
 pub fn images_stand_for_one_table()

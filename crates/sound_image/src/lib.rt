@@ -4,7 +4,7 @@
 mod laws;
 
 pub use laws::{
-    chunks_are_read, images_stand_for_one_table, one_first_damage, rules_hold_or_break,
-    sound_images_are_spelled, sound_tables_are_well_formed, spelled_images_are_sound,
-    spelled_places, spelling_leaves_the_rest,
+    chunks_are_read, groups_are_counted, images_stand_for_one_table, one_first_damage,
+    rules_hold_or_break, sound_images_are_spelled, sound_tables_are_well_formed,
+    spelled_images_are_sound, spelled_places, spelling_leaves_the_rest,
 };
