@@ -99,6 +99,10 @@ pub enum Status {
     OpenFault,
     SourceFault,
     SinkFault,
+    /// A write of the disk that was given failed.
+    WriteFault,
+    /// A flush of the disk that was given failed.
+    FlushFault,
     NoMemory,
 }
 
