@@ -1,3 +1,4 @@
 pub mod Lines
+pub mod Makings
 pub mod Openings
 pub mod Statuses

@@ -47,6 +47,8 @@ due_fault bytes a b c d status.ScriptTooLong result ends yields line outside =
 due_fault bytes a b c d status.OpenFault result ends yields line outside = absurd (not_readable bytes line ends.1 outside)
 due_fault bytes a b c d status.SourceFault result ends yields line outside = by_source result (status.ScriptFault line 0) yields
 due_fault bytes a b c d status.SinkFault result ends yields line outside = absurd ends
+due_fault bytes a b c d status.WriteFault result ends yields line outside = absurd ends
+due_fault bytes a b c d status.FlushFault result ends yields line outside = absurd ends
 due_fault bytes a b c d status.NoMemory result ends yields line outside = by_memory result (status.ScriptFault line 0) yields
 
 told_fault : (bytes : List ℕ) (a b c d : ℕ) (ended result : Status) → EndsAs (Some bytes) a b c d ended → Yields result ended
@@ -83,6 +85,8 @@ due_long bytes a b c d status.OpenFault result ends yields long =
     absurd (omega arith)
 due_long bytes a b c d status.SourceFault result ends yields long = by_source result status.ScriptTooLong yields
 due_long bytes a b c d status.SinkFault result ends yields long = absurd ends
+due_long bytes a b c d status.WriteFault result ends yields long = absurd ends
+due_long bytes a b c d status.FlushFault result ends yields long = absurd ends
 due_long bytes a b c d status.NoMemory result ends yields long = by_memory result status.ScriptTooLong yields
 
 told_long : (bytes : List ℕ) (a b c d : ℕ) (ended result : Status) → EndsAs (Some bytes) a b c d ended → Yields result ended
@@ -116,6 +120,8 @@ complete bytes a b c d status.OpenFault result ends (inl e) readable = inl e
 complete bytes a b c d status.OpenFault result ends (inr other) readable = inr (inr (inr other))
 complete bytes a b c d status.SourceFault result ends yields readable = inr (by_source result status.Good yields)
 complete bytes a b c d status.SinkFault result ends yields readable = absurd ends
+complete bytes a b c d status.WriteFault result ends yields readable = absurd ends
+complete bytes a b c d status.FlushFault result ends yields readable = absurd ends
 complete bytes a b c d status.NoMemory result ends yields readable = inr (by_memory result status.Good yields)
 
 -- a readable script ends well, unless something failed
@@ -144,6 +150,6 @@ Replied-written script ended result said said' mounts mounts' yields same_said s
 -- the causes of the answers, where a disk was given
 pub given_causes : {D : Type 0} (faults : D → ℕ) (disk : Option D) (Early : Type 0) (old new : List Given) (path : List ℕ) (said : List Said) (mounts : List MountRecord)
     → MatchOption disk Early (λ d. (count : ℕ) × (new ≡ old ++ attached path count ∷ []) × Caused count (faults d) said mounts)
-    → IfSome disk (λ d. (at : List ℕ) × ((count : ℕ) × (new ≡ old ++ attached at count ∷ []) × Caused count (faults d) said mounts))
+    → IfSome disk (λ d. (count : ℕ) × (new ≡ old ++ attached path count ∷ []) × Caused count (faults d) said mounts)
 given_causes faults None Early old new path said mounts given = tt
-given_causes faults (Some d) Early old new path said mounts given = (path, given)
+given_causes faults (Some d) Early old new path said mounts given = given

@@ -1,5 +1,5 @@
 -- What a whole run comes to.
-use Rattle.std.specs.Prelude.{◌≡◌, ◌<◌, ◌≤◌, ◌⊎◌, ⊤, ℕ, Bool, true, false, List, [], ◌∷◌, Option, None, Some, String, string_bytes, length, take, map, codes}
+use Rattle.std.specs.Prelude.{◌≡◌, ◌<◌, ◌≤◌, ◌⊎◌, ⊤, ℕ, Bool, true, false, List, [], Option, None, Some, String, length, take}
 use Rattle.std.specs.Io.KnownBytes.{Appends}
 use Rattle.std.specs.declared.alloc.Global.{Global}
 use Rattle.life_limits.specs.declared.TheConstants.{MAX_SCRIPT_BYTES}
@@ -8,21 +8,13 @@ use Rattle.life_ports.specs.Faults.{Rose}
 use Rattle.life_cli.specs.Output.{AppendsPrefix}
 use Rattle.life_cli.specs.Script.{lines_of, commands_of, first_outside}
 use Rattle.thin_run.specs.Outcome.{AnswersAll}
+use Rattle.life_cli.specs.Form.{IsNoForm}
 use Rattle.life_cli.specs.Texts.{output_of, status_line}
 use Rattle.thin_run.specs.declared.command.Command.{Command}
 use Rattle.thin_run.specs.declared.types.MountRecord.{MountRecord}
 use Rattle.thin_run.specs.declared.types.Said.{Said}
 use Rattle.thin_run.specs.declared.types.Status.{Status}
 use Rattle.thin_run.specs.declared.types.Status.TheVariants as status
-
--- a path: not empty, and no option
-abbrev pub IsPath : List ℕ → Type 0
-IsPath [] = ⊥
-IsPath (first ∷ rest) = first ≡ 45 → ⊥
-
--- the words are `steps` and this path
-abbrev pub IsSteps : List (String Global) → List ℕ → Type 0
-IsSteps words path = (map string_bytes words ≡ codes "steps" ∷ path ∷ []) × IsPath path
 
 -- the status is this one, unless the sink failed or memory lacked
 abbrev pub Yields : Status → Status → Type 0
@@ -40,17 +32,19 @@ Replied script ended said mounts =
     × AnswersAll (take (length said) commands) said mounts
 
 -- what was written: the whole output, or a prefix of it where the sink failed; for want of memory maybe the last line alone
-abbrev pub IsWritten : Option (List ℕ) → Option (List ℕ) → List MountRecord → List Said → Status → Type 0
-IsWritten before after mounts said status.SinkFault =
-    (ended : Status) × (AppendsPrefix before after (output_of mounts said ended) ⊎ AppendsPrefix before after (status_line status.NoMemory))
-IsWritten before after mounts said status.NoMemory =
-    Appends before after (output_of mounts said status.NoMemory) ⊎ Appends before after (status_line status.NoMemory)
-IsWritten before after mounts said status.Good = Appends before after (output_of mounts said status.Good)
-IsWritten before after mounts said status.Usage = Appends before after (output_of mounts said status.Usage)
-IsWritten before after mounts said (status.ScriptFault line rule) = Appends before after (output_of mounts said (status.ScriptFault line rule))
-IsWritten before after mounts said status.ScriptTooLong = Appends before after (output_of mounts said status.ScriptTooLong)
-IsWritten before after mounts said status.OpenFault = Appends before after (output_of mounts said status.OpenFault)
-IsWritten before after mounts said status.SourceFault = Appends before after (output_of mounts said status.SourceFault)
+abbrev pub IsWritten : Option (List ℕ) → Option (List ℕ) → (Status → List ℕ) → Status → Type 0
+IsWritten before after lines status.SinkFault =
+    (ended : Status) × (AppendsPrefix before after (output_of lines ended) ⊎ AppendsPrefix before after (status_line status.NoMemory))
+IsWritten before after lines status.NoMemory =
+    Appends before after (output_of lines status.NoMemory) ⊎ Appends before after (status_line status.NoMemory)
+IsWritten before after lines status.Good = Appends before after (output_of lines status.Good)
+IsWritten before after lines status.Usage = Appends before after (output_of lines status.Usage)
+IsWritten before after lines (status.ScriptFault line rule) = Appends before after (output_of lines (status.ScriptFault line rule))
+IsWritten before after lines status.ScriptTooLong = Appends before after (output_of lines status.ScriptTooLong)
+IsWritten before after lines status.OpenFault = Appends before after (output_of lines status.OpenFault)
+IsWritten before after lines status.SourceFault = Appends before after (output_of lines status.SourceFault)
+IsWritten before after lines status.WriteFault = Appends before after (output_of lines status.WriteFault)
+IsWritten before after lines status.FlushFault = Appends before after (output_of lines status.FlushFault)
 
 -- what a script holds, where the source tells its bytes
 abbrev pub WhereTold : Option (List ℕ) → (List ℕ → Type 0) → Type 0
@@ -76,6 +70,8 @@ RefusesScript script before after status.ScriptTooLong = WhereTold script (λ by
 RefusesScript script before after status.OpenFault = ⊥
 RefusesScript script before after status.SourceFault = Rose before after
 RefusesScript script before after status.SinkFault = ⊥
+RefusesScript script before after status.WriteFault = ⊥
+RefusesScript script before after status.FlushFault = ⊥
 RefusesScript script before after status.NoMemory = ⊤
 
 -- when each status comes of a run over a path, by the counts of the source and of the images before and after
@@ -87,6 +83,8 @@ EndsAs script source_before source_after images_before images_after status.Scrip
 EndsAs script source_before source_after images_before images_after status.OpenFault = Rose images_before images_after × WhereTold script IsReadable
 EndsAs script source_before source_after images_before images_after status.SourceFault = Rose source_before source_after
 EndsAs script source_before source_after images_before images_after status.SinkFault = ⊥
+EndsAs script source_before source_after images_before images_after status.WriteFault = ⊥
+EndsAs script source_before source_after images_before images_after status.FlushFault = ⊥
 EndsAs script source_before source_after images_before images_after status.NoMemory = ⊤
 
 -- an image that stands at a path, of a kind of disk that tells what it holds
@@ -94,15 +92,15 @@ abbrev pub image_told : Bool → Option (List Sector) → Option (List Sector)
 image_told true image = image
 image_told false image = None
 
--- what a run leaves that was given no disk
+-- what a run leaves that read no script, or was given no disk
 pub record IsEarly (mounts : List MountRecord) (said : List Said) : Type 0 where
   pub no_mount : mounts ≡ []
   pub no_answer : said ≡ []
 
 -- usage comes exactly where the words are in no form
 pub record IsUsage (words : List (String Global)) (ended : Status) : Type 0 where
-  pub told : ended ≡ status.Usage → (path : List ℕ) → IsSteps words path → ⊥
-  pub exact : ((path : List ℕ) → IsSteps words path → ⊥) → Yields ended status.Usage
+  pub told : ended ≡ status.Usage → IsNoForm words
+  pub exact : IsNoForm words → Yields ended status.Usage
 
 -- the status is this one, unless the source or the sink failed or memory lacked
 abbrev pub YieldsRead : Status → Status → Type 0

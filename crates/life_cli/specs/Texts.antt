@@ -66,11 +66,34 @@ status_line status.ScriptTooLong = codes "script too long" ++ (10 ∷ [])
 status_line status.OpenFault = codes "open fault" ++ (10 ∷ [])
 status_line status.SourceFault = codes "source fault" ++ (10 ∷ [])
 status_line status.SinkFault = []
+status_line status.WriteFault = codes "write fault" ++ (10 ∷ [])
+status_line status.FlushFault = codes "flush fault" ++ (10 ∷ [])
 status_line status.NoMemory = codes "no memory" ++ (10 ∷ [])
 
+-- the lines of a run of a script
+abbrev pub run_lines : List MountRecord → List Said → Status → List ℕ
+run_lines mounts said ended = answer_lines mounts said
+
+-- the line of an image that was made
+abbrev pub made_line : ℕ → List ℕ
+made_line sectors = codes "made " ++ (decimal sectors ++ (codes " sectors" ++ (10 ∷ [])))
+
+-- the lines of a make: none, where it did not end well
+abbrev pub make_lines : ℕ → Status → List ℕ
+make_lines sectors status.Good = made_line sectors
+make_lines sectors status.Usage = []
+make_lines sectors (status.ScriptFault line rule) = []
+make_lines sectors status.ScriptTooLong = []
+make_lines sectors status.OpenFault = []
+make_lines sectors status.SourceFault = []
+make_lines sectors status.SinkFault = []
+make_lines sectors status.WriteFault = []
+make_lines sectors status.FlushFault = []
+make_lines sectors status.NoMemory = []
+
 -- all that is written of a run that ended so
-abbrev pub output_of : List MountRecord → List Said → Status → List ℕ
-output_of mounts said ended = answer_lines mounts said ++ status_line ended
+abbrev pub output_of : (Status → List ℕ) → Status → List ℕ
+output_of lines ended = lines ended ++ status_line ended
 
 -- the exit status of the program, where its run ended so
 abbrev pub exit_status : Status → ℕ
@@ -81,4 +104,6 @@ exit_status status.ScriptTooLong = 4
 exit_status status.OpenFault = 5
 exit_status status.SourceFault = 6
 exit_status status.SinkFault = 7
+exit_status status.WriteFault = 10
+exit_status status.FlushFault = 11
 exit_status status.NoMemory = 13

@@ -1,10 +1,14 @@
-//! The program `life`: it runs a script over an image.
+//! The program `life`: it makes images, and runs scripts over them.
 //!
-//! `life steps IMAGE` reads a script on standard input, runs its lines over the image, and writes a line for each.
+//! `life make IMAGE GROUPS BLOCKS RING` makes an image without a file. `life steps IMAGE` reads a script on standard input, runs its lines over the image, and
+//! writes a line for each.
 #![tactic(auto)]
 
+mod ending;
 mod file_disk;
+mod form;
 mod input;
+mod making;
 mod output;
 mod script;
 #[cfg(test)]

@@ -1,7 +1,7 @@
 // Whole runs over disks in memory.
 
 use crate::top::top;
-use disk_model::{Blank, FaultDisk, MemoryDisk, MemoryImages};
+use disk_model::{Blank, Disk, FaultDisk, MemoryDisk, MemoryImages};
 use life_ports::{MemorySink, MemorySource};
 use std::alloc::Global;
 use std::test::Fail;
@@ -88,7 +88,7 @@ struct Row {
     status: Status,
 }
 
-const ROWS: [Row; 12] = [
+const ROWS: [Row; 17] = [
     Row {
         words: &["steps", "disk"],
         script: "mount\ncreate 0 a\nsync\n",
@@ -129,6 +129,47 @@ const ROWS: [Row; 12] = [
         fails_at: 0,
         written: "usage: life make, check, steps, load, live, drill\n",
         status: Status::Usage,
+    },
+    Row {
+        words: &["make", "s", "01", "64", "256"],
+        script: "mount\n",
+        sectors: 72,
+        fails_at: 0,
+        written: "usage: life make, check, steps, load, live, drill\n",
+        status: Status::Usage,
+    },
+    Row {
+        words: &["make", "s", "17", "64", "256"],
+        script: "mount\n",
+        sectors: 72,
+        fails_at: 0,
+        written: "usage: life make, check, steps, load, live, drill\n",
+        status: Status::Usage,
+    },
+    Row {
+        words: &["make", "s", "1", "63", "256"],
+        script: "mount\n",
+        sectors: 72,
+        fails_at: 0,
+        written: "usage: life make, check, steps, load, live, drill\n",
+        status: Status::Usage,
+    },
+    Row {
+        words: &["make", "s", "1"],
+        script: "mount\n",
+        sectors: 72,
+        fails_at: 0,
+        written: "usage: life make, check, steps, load, live, drill\n",
+        status: Status::Usage,
+    },
+    // Something stands there.
+    Row {
+        words: &["make", "disk", "1", "64", "256"],
+        script: "mount\n",
+        sectors: 72,
+        fails_at: 0,
+        written: "open fault\n",
+        status: Status::OpenFault,
     },
     Row {
         words: &["steps", "elsewhere"],
@@ -201,6 +242,29 @@ fn each_run_writes_its_answers(rt: HostRuntime) -> Result<(), Fail> {
             Status::Usage | Status::OpenFault | Status::ScriptFault { .. }
         );
         assert_eq!(rt; ended.disk.is_some(), was_given, "row {place}");
+    }
+    Ok(())
+}
+
+#[test]
+fn make_prints_its_sectors(rt: HostRuntime) -> Result<(), Fail> {
+    let alloc = rt.alloc();
+    for (words, written, sectors) in [
+        (["make", "s", "1", "64", "256"], "made 769 sectors\n", 769),
+        (
+            ["make", "p", "2", "128", "256"],
+            "made 2305 sectors\n",
+            2305,
+        ),
+    ] {
+        let mut images = one_disk(alloc, 72, Vec::new(alloc))?;
+        let ended = run_words(alloc, &mut images, &words, "creat 0 a\n")?;
+        assert_eq!(rt; ended.written.as_str(), written);
+        assert_eq!(rt; ended.status, Status::Good);
+        let Some(disk) = ended.disk else {
+            return Err(Fail::from("no disk was handed back"));
+        };
+        assert_eq!(rt; disk.sectors(), sectors);
     }
     Ok(())
 }

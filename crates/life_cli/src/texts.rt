@@ -1,7 +1,7 @@
 // What is written of a run, and its exit status.
 
 ghost use Rattle.std.specs.Prelude.{◌≡◌, ◌++◌, ◌∷◌, [], IfOk, OnOk, string_bytes};
-ghost use Rattle.life_cli.specs.Texts.{entry_at, entry_text, event_text, exit_status, line_reply_text, output_of, reply_text, said_text, status_line};
+ghost use Rattle.life_cli.specs.Texts.{entry_at, entry_text, event_text, exit_status, line_reply_text, make_lines, output_of, reply_text, run_lines, said_text, status_line};
 ghost use Rattle.thin_run.specs.declared.types.Status.TheVariants as status;
 
 use life_ports::NoMemory;
@@ -87,22 +87,36 @@ fn push_status(text: &mut String, ended: &Status) -> Result<(), AllocError>
         Status::ScriptTooLong => push_text(text, "script too long\n"),
         Status::OpenFault => push_text(text, "open fault\n"),
         Status::SourceFault => push_text(text, "source fault\n"),
+        Status::WriteFault => push_text(text, "write fault\n"),
+        Status::FlushFault => push_text(text, "flush fault\n"),
         Status::NoMemory => push_text(text, no_memory_line()),
     }
 }
 
-/// What is written of a run that ended so.
+/// What is written of a run of a script that ended so.
 pub(crate) fn print(
     alloc: Global,
     mounts: &[MountRecord],
     said: &[Said],
     ended: &Status,
 ) -> Result<String, NoMemory>
-    ensures { IfOk result (λ text. string_bytes text ≡ output_of mounts.now said.now ended.now) }
+    ensures { IfOk result (λ text. string_bytes text ≡ output_of (run_lines mounts.now said.now) ended.now) }
 {
     let mut text = String::new(alloc);
     for one in said {
         push_answer(&mut text, mounts, one)?;
+    }
+    push_status(&mut text, ended)?;
+    Ok(text)
+}
+
+/// What is written of the making of an image of so many sectors that ended so.
+pub(crate) fn print_made(alloc: Global, sectors: u64, ended: &Status) -> Result<String, NoMemory>
+    ensures { IfOk result (λ text. string_bytes text ≡ output_of (make_lines sectors) ended.now) }
+{
+    let mut text = String::new(alloc);
+    if let Status::Good = *ended {
+        write!(text, "made {sectors} sectors\n")?;
     }
     push_status(&mut text, ended)?;
     Ok(text)
@@ -127,6 +141,8 @@ pub(crate) fn exit_code(ended: &Status) -> u8
         Status::OpenFault => 5,
         Status::SourceFault => 6,
         Status::SinkFault => 7,
+        Status::WriteFault => 10,
+        Status::FlushFault => 11,
         Status::NoMemory => 13,
     }
 }
@@ -238,6 +254,8 @@ mod tests {
             (Status::OpenFault, "open fault\n", 5),
             (Status::SourceFault, "source fault\n", 6),
             (Status::SinkFault, "", 7),
+            (Status::WriteFault, "write fault\n", 10),
+            (Status::FlushFault, "flush fault\n", 11),
             (Status::NoMemory, "no memory\n", 13),
         ] {
             let text = print(alloc, &[], &[], &ended)?;
@@ -245,6 +263,13 @@ mod tests {
             assert_eq!(rt; exit_code(&ended), code);
         }
         assert_eq!(rt; no_memory_line(), "no memory\n");
+        for (ended, want) in [
+            (Status::Good, "made 769 sectors\n"),
+            (Status::WriteFault, "write fault\n"),
+        ] {
+            let text = print_made(alloc, 769, &ended)?;
+            assert_eq!(rt; text.as_str(), want);
+        }
         Ok(())
     }
 }

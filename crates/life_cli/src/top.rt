@@ -10,57 +10,25 @@ ghost use Rattle.disk_model.specs.Images.{attached};
 ghost use Rattle.life_bytes.specs.declared.sector.Sector.{Sector};
 ghost use Rattle.thin_run.specs.Thin.{ring_of, MountsFit};
 ghost use Rattle.life_cli.specs.Input.{Takes, TakesAtMost};
-ghost use Rattle.life_cli.specs.Outcome.{IsPath, IsSteps, IsScript, IsReadable, WhereTold, RefusesScript, Replied, EndsAs, image_told, IsEarly, Yields, IsWritten, IsUsage, FaultsExactly, IsTooLongExactly, CompletesAs};
+ghost use Rattle.geometry.specs.declared.shape.Geometry.{Geometry};
+ghost use Rattle.life_cli.specs.Form.{IsMake, IsNoForm, IsSteps};
+ghost use Rattle.life_cli.specs.Making.{FailedInMake, IsGiven, Makes, sectors_of};
+ghost use Rattle.life_cli.specs.Outcome.{IsScript, IsReadable, WhereTold, RefusesScript, Replied, EndsAs, image_told, IsEarly, IsWritten, IsUsage, FaultsExactly, IsTooLongExactly, CompletesAs};
+ghost use Rattle.life_cli.specs.Texts.{make_lines, run_lines};
 ghost use Rattle.thin_run.specs.Wherever.{LeftWhereTold};
 ghost use Rattle.thin_run.specs.Outcome.{AnswersAll, IsLegalOver, IsLogged, IsFirst, Caused, FitWhereTold, where_told, IsRunStatus};
 ghost use Rattle.thin_run.specs.Ending.{stories_of};
 ghost use Rattle.thin_run.specs.declared.types.Status.TheVariants as status;
 
+use crate::ending::{ended_early, write_make, write_run};
+use crate::form::{Form, read_form};
 use crate::input::{ReadFault, read_script};
-use crate::output::write_whole;
+use crate::making::run_make;
 use crate::script::{ParseFault, parse};
-use crate::texts::{no_memory_line, print};
 use disk_model::Images;
-use life_ports::{Failed, NoMemory, Refused, Sink, Source};
+use life_ports::{Refused, Sink, Source};
 use std::alloc::Global;
 use thin_run::{Command, Ended, Status, run_over};
-
-// A word that is not empty and no option.
-fn is_path(word: &str) -> bool
-    ensures { IsTrue result ↔ IsPath word.now }
-{
-    match word.as_bytes() {
-        [] => false,
-        [first, ..] => *first != b'-',
-    }
-}
-
-/// The path of the image, where the words are `steps` and a path.
-fn image_path(words: &[String]) -> Option<&str>
-    ensures { MatchOption result ((path : List ℕ) → IsSteps words.now path → ⊥) (λ path. IsSteps words.now path.now) }
-{
-    match words {
-        [form, image] if form.as_str() == "steps" && is_path(image.as_str()) => Some(
-            image.as_str(),
-        ),
-        _ => None,
-    }
-}
-
-/// A run that ended before it was given a disk.
-fn ended_early<D>(alloc: Global, status: Status) -> Ended<D>
-    ensures status { result.status ≡ status }
-    ensures disk { IsNone result.disk }
-    ensures mounts { result.mounts.items ≡ [] }
-    ensures said { result.said.items ≡ [] }
-{
-    Ended {
-        status,
-        disk: None,
-        mounts: Vec::new(alloc),
-        said: Vec::new(alloc),
-    }
-}
 
 /// The commands of the script that the source has, or why there are none.
 fn read_commands<S: Source>(alloc: Global, script: &mut S) -> Result<Vec<Command>, Status>
@@ -121,53 +89,12 @@ fn run_steps<I: Images, S: Source>(
     }
 }
 
-/// The same run, ended so.
-fn with_status<D>(ended: Ended<D>, status: Status) -> Ended<D>
-    ensures { result ≡ record ended { status = status } }
-{
-    let Ended {
-        disk,
-        mounts,
-        said,
-        ..
-    } = ended;
-    Ended {
-        status,
-        disk,
-        mounts,
-        said,
-    }
-}
-
-/// Writes what a run tells. Its status becomes that of the sink where that failed, and that of want of memory
-/// where there is none to print.
-fn write_out<D, K: Sink>(alloc: Global, ended: Ended<D>, out: &mut K) -> Ended<D>
-    requires { ended.status ≢ status.SinkFault }
-    ensures status { Yields result.status ended.status }
-    ensures output { IsWritten (K.bytes_held out.old) (K.bytes_held out.new) result.mounts.items result.said.items result.status }
-    ensures sink_fault { result.status ≡ status.SinkFault → Rose (K.fault_count out.old) (K.fault_count out.new) }
-    ensures never_falls { K.fault_count out.old ≤ K.fault_count out.new }
-    ensures disk { result.disk ≡ ended.disk }
-    ensures mounts { result.mounts.items ≡ ended.mounts.items }
-    ensures said { result.said.items ≡ ended.said.items }
-{
-    match print(alloc, &ended.mounts, &ended.said, &ended.status) {
-        Ok(text) => match write_whole(out, text.as_bytes()) {
-            Ok(()) => ended,
-            Err(Failed) => with_status(ended, Status::SinkFault),
-        },
-        Err(NoMemory) => match write_whole(out, no_memory_line().as_bytes()) {
-            Ok(()) => with_status(ended, Status::NoMemory),
-            Err(Failed) => with_status(ended, Status::SinkFault),
-        },
-    }
-}
-
 /// Runs the program's words over these images, a script and a sink.
 ///
-/// The words are `steps` and the path of an image. The script is read whole, at most 2^24 bytes, before anything
-/// else is done; then the image is attached, the lines are run, and the output is written once at the end.
-/// A disk that was given is handed back. A mount that is up at the end is left as by a stop.
+/// The words are `steps` and the path of an image, or `make`, a path and the groups, the blocks of a group and the sectors of the ring of an image that is to
+/// be made there. For `steps` the script is read whole, at most 2^24 bytes, before anything else is done; then the image is attached, the lines are run, and the
+/// output is written once at the end. A mount that is up at the end is left as by a stop. `make` reads no script.
+/// A disk that was given is handed back.
 pub fn top<I: Images, S: Source, K: Sink>(
     alloc: Global,
     words: &[String],
@@ -176,7 +103,7 @@ pub fn top<I: Images, S: Source, K: Sink>(
     out: &mut K,
 ) -> Ended<I::Disk>
     // Each line has its answer, in order, and a line that made a call the reply of that call's entry.
-    ensures replies { Replied (S.bytes_left script.old) result.status result.said.items result.mounts.items }
+    ensures replies { (path : List ℕ) → IsSteps words.now path → Replied (S.bytes_left script.old) result.status result.said.items result.mounts.items }
 
     // The entries of each mount are one legal history of the table that the image stands for.
     ensures legal { (path : List ℕ) → IsSteps words.now path
@@ -193,22 +120,33 @@ pub fn top<I: Images, S: Source, K: Sink>(
     // A mount is damaged exactly where the image is not thin. All other faults are the disk's.
     ensures damaged { (path : List ℕ) → IsSteps words.now path
         → FitWhereTold (image_told I.Disk.told (I.image_at images.old path)) result.said.items }
-    ensures causes { IfSome result.disk (λ disk. (path : List ℕ) × ((count : ℕ) × (I.given images.new ≡ I.given images.old ++ attached path count ∷ [])
-        × Caused count (I.Disk.fault_count disk) result.said.items result.mounts.items)) }
+    ensures causes { (path : List ℕ) → IsSteps words.now path → IfSome result.disk (λ disk. (count : ℕ) × (I.given images.new ≡ I.given images.old ++ attached path count ∷ [])
+        × Caused count (I.Disk.fault_count disk) result.said.items result.mounts.items) }
 
-    ensures output { IsWritten (K.bytes_held out.old) (K.bytes_held out.new) result.mounts.items result.said.items result.status }
+    // A disk was created and made, or none could be created. What stands there when it ends well is the image without a file.
+    ensures makes { (path : List ℕ) (g : Geometry) → IsMake words.now path g → Makes I.Disk.told I.Disk.cells I.Disk.sector_count I.Disk.fault_count path g
+        (I.given images.old) (I.given images.new) result.disk result.status }
+
+    ensures output { ((path : List ℕ) (g : Geometry) → IsMake words.now path g → ⊥)
+        → IsWritten (K.bytes_held out.old) (K.bytes_held out.new) (run_lines result.mounts.items result.said.items) result.status }
+    ensures made_output { (path : List ℕ) (g : Geometry) → IsMake words.now path g
+        → IsWritten (K.bytes_held out.old) (K.bytes_held out.new) (make_lines (sectors_of g)) result.status }
 
     // When each status comes.
     ensures usage { IsUsage words.now result.status }
-    // Where the words are in no form, neither the script nor the images are touched.
-    ensures untouched { ((path : List ℕ) → IsSteps words.now path → ⊥) → (script.new ≡ script.old) × (images.new ≡ images.old) }
     ensures script_fault { (path : List ℕ) → IsSteps words.now path → WhereTold (S.bytes_left script.old) (λ bytes. FaultsExactly bytes result.status) }
     ensures script_too_long { (path : List ℕ) → IsSteps words.now path → WhereTold (S.bytes_left script.old) (λ bytes. IsTooLongExactly bytes result.status) }
     ensures complete { (path : List ℕ) → IsSteps words.now path → WhereTold (S.bytes_left script.old) (λ bytes. IsReadable bytes → CompletesAs result.status) }
     ensures source_fault { result.status ≡ status.SourceFault → Rose (S.fault_count script.old) (S.fault_count script.new) }
     ensures open_fault { result.status ≡ status.OpenFault → Rose (I.fault_count images.old) (I.fault_count images.new) }
+    ensures write_fault { result.status ≡ status.WriteFault → FailedInMake I.Disk.fault_count words.now (I.given images.old) (I.given images.new) result.disk }
+    ensures flush_fault { result.status ≡ status.FlushFault → FailedInMake I.Disk.fault_count words.now (I.given images.old) (I.given images.new) result.disk }
     ensures sink_fault { result.status ≡ status.SinkFault → Rose (K.fault_count out.old) (K.fault_count out.new) }
-    ensures end { result.status ≡ status.Good → IsAtEnd (S.bytes_left script.new) }
+
+    // Only `steps` touches the script, and gives answers. Where the words are in no form, the images are not touched either.
+    ensures unread { ((path : List ℕ) → IsSteps words.now path → ⊥) → (script.new ≡ script.old) × IsEarly result.mounts.items result.said.items }
+    ensures untouched { IsNoForm words.now → images.new ≡ images.old }
+    ensures end { (path : List ℕ) → IsSteps words.now path → result.status ≡ status.Good → IsAtEnd (S.bytes_left script.new) }
 
     // Of the script no more is taken than the most bytes that one may have and one more, and that only of a longer one.
     ensures taken { TakesAtMost (MAX_SCRIPT_BYTES + 1) (S.bytes_left script.old) (S.bytes_left script.new) }
@@ -216,11 +154,19 @@ pub fn top<I: Images, S: Source, K: Sink>(
 
     // A disk is handed back exactly where one was given, which is at most one, and where the run ended well.
     ensures handed_back { MatchOption result.disk ((I.given images.new ≡ I.given images.old) × IsEarly result.mounts.items result.said.items)
-        (λ disk. (path : List ℕ) × IsSteps words.now path × ((count : ℕ) × (I.given images.new ≡ I.given images.old ++ attached path count ∷ []))) }
+        (λ disk. IsGiven words.now (I.given images.old) (I.given images.new)) }
     ensures disk { result.status ≡ status.Good → IsSome result.disk }
 {
-    match image_path(words) {
-        Some(path) => write_out(alloc, run_steps(alloc, path, images, script), out),
-        None => write_out(alloc, ended_early(alloc, Status::Usage), out),
+    match read_form(words) {
+        Some(Form::Steps { path }) => write_run(alloc, run_steps(alloc, path, images, script), out),
+        Some(Form::Make { path, geometry }) => {
+            write_make(
+                alloc,
+                &geometry,
+                run_make(alloc, path, &geometry, images),
+                out,
+            )
+        }
+        None => write_run(alloc, ended_early(alloc, Status::Usage), out),
     }
 }

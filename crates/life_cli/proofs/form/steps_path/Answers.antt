@@ -1,7 +1,7 @@
 use Rattle.std.proofs.Common.{◌≡◌, ◌<◌, ◌≤◌, ℕ, List, [], ◌∷◌, String, Global, length, get_or, map, string_bytes, codes, sym, ap, ◌∙◌, subst, arith}
 use Rattle.std.proofs.lemmas.Slice.Eq.{bytes_eq-Decides}
-use Rattle.life_cli.specs.Outcome.{IsPath}
-use Rattle.life_cli.proofs.top.image_path.Goals as goal
+use Rattle.life_cli.specs.Form.{IsPath}
+use Rattle.life_cli.proofs.form.steps_path.Goals as goal
 
 -- a list of two is made of its two elements
 pair_of : {X : Type 0} (xs : List X) (a b : X) → 2 ≤ length xs → length xs < 3 → a ≡ get_or xs 0 a → b ≡ get_or xs 1 b → xs ≡ a ∷ b ∷ []

@@ -1,0 +1,115 @@
+// How a run ends: before it began, or with what is written of it.
+
+ghost use Rattle.std.specs.Prelude.{◌≡◌, ◌≢◌, ◌≤◌, [], ℕ, List, IfOk, IsNone, string_bytes};
+ghost use Rattle.life_ports.specs.Faults.{Rose};
+ghost use Rattle.geometry.specs.Shape.{IsGeometry};
+ghost use Rattle.life_cli.specs.Making.{EndsMake, sectors_of};
+ghost use Rattle.life_cli.specs.Outcome.{IsWritten, Yields};
+ghost use Rattle.life_cli.specs.Texts.{make_lines, output_of, run_lines};
+ghost use Rattle.thin_run.specs.declared.types.Status.{Status};
+ghost use Rattle.thin_run.specs.declared.types.Status.TheVariants as status;
+
+use crate::output::write_whole;
+use crate::texts::{no_memory_line, print, print_made};
+use geometry::{Geometry, image_sectors};
+use life_ports::{Failed, NoMemory, Sink};
+use std::alloc::Global;
+use thin_run::{Ended, Status};
+
+/// A run that ended before it was given a disk.
+pub(crate) fn ended_early<D>(alloc: Global, status: Status) -> Ended<D>
+    ensures status { result.status ≡ status }
+    ensures disk { IsNone result.disk }
+    ensures mounts { result.mounts.items ≡ [] }
+    ensures said { result.said.items ≡ [] }
+{
+    Ended {
+        status,
+        disk: None,
+        mounts: Vec::new(alloc),
+        said: Vec::new(alloc),
+    }
+}
+
+/// The same run, ended so.
+fn with_status<D>(ended: Ended<D>, status: Status) -> Ended<D>
+    ensures { result ≡ record ended { status = status } }
+{
+    let Ended {
+        disk,
+        mounts,
+        said,
+        ..
+    } = ended;
+    Ended {
+        status,
+        disk,
+        mounts,
+        said,
+    }
+}
+
+/// Writes what was printed of a run. Its status becomes that of the sink where that failed, and that of want of memory
+/// where there was none to print.
+fn write_out<D, K: Sink>(
+    printed: Result<String, NoMemory>,
+    ended: Ended<D>,
+    out: &mut K,
+) -> Ended<D>
+    requires { ended.status ≢ status.SinkFault }
+    ensures status { Yields result.status ended.status }
+    ensures output { (lines : Status → List ℕ) → IfOk printed (λ text. string_bytes text ≡ output_of lines ended.status)
+        → IsWritten (K.bytes_held out.old) (K.bytes_held out.new) lines result.status }
+    ensures sink_fault { result.status ≡ status.SinkFault → Rose (K.fault_count out.old) (K.fault_count out.new) }
+    ensures never_falls { K.fault_count out.old ≤ K.fault_count out.new }
+    ensures disk { result.disk ≡ ended.disk }
+    ensures mounts { result.mounts.items ≡ ended.mounts.items }
+    ensures said { result.said.items ≡ ended.said.items }
+{
+    match printed {
+        Ok(text) => match write_whole(out, text.as_bytes()) {
+            Ok(()) => ended,
+            Err(Failed) => with_status(ended, Status::SinkFault),
+        },
+        Err(NoMemory) => match write_whole(out, no_memory_line().as_bytes()) {
+            Ok(()) => with_status(ended, Status::NoMemory),
+            Err(Failed) => with_status(ended, Status::SinkFault),
+        },
+    }
+}
+
+/// Writes what a run of a script tells.
+pub(crate) fn write_run<D, K: Sink>(alloc: Global, ended: Ended<D>, out: &mut K) -> Ended<D>
+    requires { ended.status ≢ status.SinkFault }
+    ensures status { Yields result.status ended.status }
+    ensures output { IsWritten (K.bytes_held out.old) (K.bytes_held out.new) (run_lines result.mounts.items result.said.items) result.status }
+    ensures sink_fault { result.status ≡ status.SinkFault → Rose (K.fault_count out.old) (K.fault_count out.new) }
+    ensures never_falls { K.fault_count out.old ≤ K.fault_count out.new }
+    ensures disk { result.disk ≡ ended.disk }
+    ensures mounts { result.mounts.items ≡ ended.mounts.items }
+    ensures said { result.said.items ≡ ended.said.items }
+{
+    let printed = print(alloc, &ended.mounts, &ended.said, &ended.status);
+    write_out(printed, ended, out)
+}
+
+/// Writes what the making of an image tells.
+pub(crate) fn write_make<D, K: Sink>(
+    alloc: Global,
+    g: &Geometry,
+    ended: Ended<D>,
+    out: &mut K,
+) -> Ended<D>
+    requires shape { IsGeometry g.now }
+    requires ends { EndsMake ended.status }
+    ensures status { Yields result.status ended.status }
+    ensures output { IsWritten (K.bytes_held out.old) (K.bytes_held out.new) (make_lines (sectors_of g.now)) result.status }
+    ensures sink_fault { result.status ≡ status.SinkFault → Rose (K.fault_count out.old) (K.fault_count out.new) }
+    ensures never_falls { K.fault_count out.old ≤ K.fault_count out.new }
+    ensures disk { result.disk ≡ ended.disk }
+    ensures mounts { result.mounts.items ≡ ended.mounts.items }
+    ensures said { result.said.items ≡ ended.said.items }
+{
+    let printed = print_made(alloc, image_sectors(g), &ended.status);
+    write_out(printed, ended, out)
+}

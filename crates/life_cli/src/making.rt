@@ -1,0 +1,70 @@
+// The making of an image at a path.
+
+ghost use Rattle.std.specs.Prelude.{◌≡◌, ◌≤◌, IfSome, IsSome, IsTrue, replicate};
+ghost use Rattle.life_bytes.specs.Sectors.{zero_sector};
+ghost use Rattle.life_ports.specs.Faults.{Rose};
+ghost use Rattle.disk_model.specs.Disk.{settled_as};
+ghost use Rattle.geometry.specs.Shape.{IsGeometry};
+ghost use Rattle.life_cli.specs.Making.{EndsMake, IsMaking, Makes, make_status, sectors_of};
+ghost use Rattle.life_cli.specs.Outcome.{IsEarly};
+ghost use Rattle.thin_run.specs.declared.types.Status.TheVariants as status;
+
+use crate::ending::ended_early;
+use disk_model::{Disk, Images};
+use geometry::{Geometry, image_sectors};
+use image_make::{MakeFault, make};
+use life_ports::Refused;
+use std::alloc::Global;
+use thin_run::{Ended, Status};
+
+fn status_of(made: Result<(), MakeFault>) -> Status
+    ensures status { result ≡ make_status made }
+    ensures ends { EndsMake result }
+{
+    match made {
+        Ok(()) => Status::Good,
+        Err(MakeFault::WriteFault) => Status::WriteFault,
+        Err(MakeFault::FlushFault) => Status::FlushFault,
+    }
+}
+
+/// Makes an image on a disk that was created for it.
+fn make_on<D: Disk>(alloc: Global, mut disk: D, g: &Geometry) -> Ended<D>
+    requires shape { IsGeometry g.now }
+    requires size { D.sector_count disk ≡ sectors_of g.now }
+    requires blank { IsTrue D.told → D.cells disk ≡ settled_as (replicate (D.sector_count disk) zero_sector) }
+    ensures disk { IsSome result.disk }
+    ensures making { IfSome result.disk (λ after. IsMaking D.told g.now (D.cells after) (D.sector_count after) (D.fault_count disk) (D.fault_count after) result.status) }
+    ensures early { IsEarly result.mounts.items result.said.items }
+    ensures ends { EndsMake result.status }
+{
+    let made = make(g, &mut disk);
+    Ended {
+        status: status_of(made),
+        disk: Some(disk),
+        mounts: Vec::new(alloc),
+        said: Vec::new(alloc),
+    }
+}
+
+/// Creates a disk at a path, and makes an image on it.
+pub(crate) fn run_make<I: Images>(
+    alloc: Global,
+    path: &str,
+    g: &Geometry,
+    images: &mut I,
+) -> Ended<I::Disk>
+    requires { IsGeometry g.now }
+    ensures makes { Makes I.Disk.told I.Disk.cells I.Disk.sector_count I.Disk.fault_count path.now g.now (I.given images.old) (I.given images.new)
+        result.disk result.status }
+    ensures early { IsEarly result.mounts.items result.said.items }
+    ensures ends { EndsMake result.status }
+    ensures open_fault { result.status ≡ status.OpenFault → Rose (I.fault_count images.old) (I.fault_count images.new) }
+    ensures never_falls { I.fault_count images.old ≤ I.fault_count images.new }
+{
+    match images.create(path, image_sectors(g)) {
+        Ok(disk) => make_on(alloc, disk, g),
+        Err(Refused::Failed) => ended_early(alloc, Status::OpenFault),
+        Err(Refused::NoMemory) => ended_early(alloc, Status::NoMemory),
+    }
+}
