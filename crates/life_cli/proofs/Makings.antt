@@ -88,6 +88,13 @@ Makes-written told cells sectors faults path g old new (Some d) disk' result end
     subst (λ o. Makes told cells sectors faults path g old new o result) (sym same)
     (makes.0, makes.1, making_on told g (cells d) (sectors d) makes.0 (faults d) result ended yields makes.2)
 
+-- it stands of the disk that is handed back
+pub Makes-on : {D : Type 0} (told : Bool) (cells : D → List Cell) (sectors faults : D → ℕ) (path : List ℕ) (g : Geometry) (old new : List Given)
+    (disk disk' : Option D) (ended : Status) → disk' ≡ disk → Makes told cells sectors faults path g old new disk ended
+    → Makes told cells sectors faults path g old new disk' ended
+Makes-on told cells sectors faults path g old new disk disk' ended same makes =
+    subst (λ o. Makes told cells sectors faults path g old new o ended) (sym same) makes
+
 not_open : (result x : Status) → Yields result status.OpenFault → (status.OpenFault ≡ x → ⊥) → (status.SinkFault ≡ x → ⊥) → (status.NoMemory ≡ x → ⊥) → result ≡ x → ⊥
 not_open result x yields opened sink memory is = opened (own_status result status.OpenFault x yields sink memory is)
 

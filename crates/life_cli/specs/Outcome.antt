@@ -31,20 +31,20 @@ Replied script ended said mounts =
     (commands : List Command) × IsScript script commands × (ended ≡ status.Good → length said ≡ length commands)
     × AnswersAll (take (length said) commands) said mounts
 
--- what was written: the whole output, or a prefix of it where the sink failed; for want of memory maybe the last line alone
-abbrev pub IsWritten : Option (List ℕ) → Option (List ℕ) → (Status → List ℕ) → Status → Type 0
-IsWritten before after lines status.SinkFault =
-    (ended : Status) × (AppendsPrefix before after (output_of lines ended) ⊎ AppendsPrefix before after (status_line status.NoMemory))
-IsWritten before after lines status.NoMemory =
+-- what was written of a run with a status of its own: the whole output, or a prefix of it where the sink failed; for want of memory maybe the last line alone
+abbrev pub IsWritten : Option (List ℕ) → Option (List ℕ) → (Status → List ℕ) → Status → Status → Type 0
+IsWritten before after lines own status.SinkFault =
+    AppendsPrefix before after (output_of lines own) ⊎ AppendsPrefix before after (status_line status.NoMemory)
+IsWritten before after lines own status.NoMemory =
     Appends before after (output_of lines status.NoMemory) ⊎ Appends before after (status_line status.NoMemory)
-IsWritten before after lines status.Good = Appends before after (output_of lines status.Good)
-IsWritten before after lines status.Usage = Appends before after (output_of lines status.Usage)
-IsWritten before after lines (status.ScriptFault line rule) = Appends before after (output_of lines (status.ScriptFault line rule))
-IsWritten before after lines status.ScriptTooLong = Appends before after (output_of lines status.ScriptTooLong)
-IsWritten before after lines status.OpenFault = Appends before after (output_of lines status.OpenFault)
-IsWritten before after lines status.SourceFault = Appends before after (output_of lines status.SourceFault)
-IsWritten before after lines status.WriteFault = Appends before after (output_of lines status.WriteFault)
-IsWritten before after lines status.FlushFault = Appends before after (output_of lines status.FlushFault)
+IsWritten before after lines own status.Good = Appends before after (output_of lines status.Good)
+IsWritten before after lines own status.Usage = Appends before after (output_of lines status.Usage)
+IsWritten before after lines own (status.ScriptFault line rule) = Appends before after (output_of lines (status.ScriptFault line rule))
+IsWritten before after lines own status.ScriptTooLong = Appends before after (output_of lines status.ScriptTooLong)
+IsWritten before after lines own status.OpenFault = Appends before after (output_of lines status.OpenFault)
+IsWritten before after lines own status.SourceFault = Appends before after (output_of lines status.SourceFault)
+IsWritten before after lines own status.WriteFault = Appends before after (output_of lines status.WriteFault)
+IsWritten before after lines own status.FlushFault = Appends before after (output_of lines status.FlushFault)
 
 -- what a script holds, where the source tells its bytes
 abbrev pub WhereTold : Option (List ℕ) → (List ℕ → Type 0) → Type 0

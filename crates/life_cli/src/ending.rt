@@ -59,7 +59,7 @@ fn write_out<D, K: Sink>(
     requires { ended.status ≢ status.SinkFault }
     ensures status { Yields result.status ended.status }
     ensures output { (lines : Status → List ℕ) → IfOk printed (λ text. string_bytes text ≡ output_of lines ended.status)
-        → IsWritten (K.bytes_held out.old) (K.bytes_held out.new) lines result.status }
+        → IsWritten (K.bytes_held out.old) (K.bytes_held out.new) lines ended.status result.status }
     ensures sink_fault { result.status ≡ status.SinkFault → Rose (K.fault_count out.old) (K.fault_count out.new) }
     ensures never_falls { K.fault_count out.old ≤ K.fault_count out.new }
     ensures disk { result.disk ≡ ended.disk }
@@ -82,7 +82,7 @@ fn write_out<D, K: Sink>(
 pub(crate) fn write_run<D, K: Sink>(alloc: Global, ended: Ended<D>, out: &mut K) -> Ended<D>
     requires { ended.status ≢ status.SinkFault }
     ensures status { Yields result.status ended.status }
-    ensures output { IsWritten (K.bytes_held out.old) (K.bytes_held out.new) (run_lines result.mounts.items result.said.items) result.status }
+    ensures output { IsWritten (K.bytes_held out.old) (K.bytes_held out.new) (run_lines result.mounts.items result.said.items) ended.status result.status }
     ensures sink_fault { result.status ≡ status.SinkFault → Rose (K.fault_count out.old) (K.fault_count out.new) }
     ensures never_falls { K.fault_count out.old ≤ K.fault_count out.new }
     ensures disk { result.disk ≡ ended.disk }
@@ -103,7 +103,7 @@ pub(crate) fn write_make<D, K: Sink>(
     requires shape { IsGeometry g.now }
     requires ends { EndsMake ended.status }
     ensures status { Yields result.status ended.status }
-    ensures output { IsWritten (K.bytes_held out.old) (K.bytes_held out.new) (make_lines (sectors_of g.now)) result.status }
+    ensures output { IsWritten (K.bytes_held out.old) (K.bytes_held out.new) (make_lines (sectors_of g.now)) ended.status result.status }
     ensures sink_fault { result.status ≡ status.SinkFault → Rose (K.fault_count out.old) (K.fault_count out.new) }
     ensures never_falls { K.fault_count out.old ≤ K.fault_count out.new }
     ensures disk { result.disk ≡ ended.disk }

@@ -13,11 +13,12 @@ ghost use Rattle.life_cli.specs.Input.{Takes, TakesAtMost};
 ghost use Rattle.geometry.specs.declared.shape.Geometry.{Geometry};
 ghost use Rattle.life_cli.specs.Form.{IsMake, IsNoForm, IsSteps};
 ghost use Rattle.life_cli.specs.Making.{FailedInMake, IsGiven, Makes, sectors_of};
-ghost use Rattle.life_cli.specs.Outcome.{IsScript, IsReadable, WhereTold, RefusesScript, Replied, EndsAs, image_told, IsEarly, IsWritten, IsUsage, FaultsExactly, IsTooLongExactly, CompletesAs};
+ghost use Rattle.life_cli.specs.Outcome.{IsScript, IsReadable, WhereTold, RefusesScript, Replied, EndsAs, image_told, IsEarly, IsWritten, IsUsage, Yields, FaultsExactly, IsTooLongExactly, CompletesAs};
 ghost use Rattle.life_cli.specs.Texts.{make_lines, run_lines};
 ghost use Rattle.thin_run.specs.Wherever.{LeftWhereTold};
 ghost use Rattle.thin_run.specs.Outcome.{AnswersAll, IsLegalOver, IsLogged, IsFirst, Caused, FitWhereTold, where_told, IsRunStatus};
 ghost use Rattle.thin_run.specs.Ending.{stories_of};
+ghost use Rattle.thin_run.specs.declared.types.Status.{Status};
 ghost use Rattle.thin_run.specs.declared.types.Status.TheVariants as status;
 
 use crate::ending::{ended_early, write_make, write_run};
@@ -127,10 +128,12 @@ pub fn top<I: Images, S: Source, K: Sink>(
     ensures makes { (path : List ℕ) (g : Geometry) → IsMake words.now path g → Makes I.Disk.told I.Disk.cells I.Disk.sector_count I.Disk.fault_count path g
         (I.given images.old) (I.given images.new) result.disk result.status }
 
-    ensures output { ((path : List ℕ) (g : Geometry) → IsMake words.now path g → ⊥)
-        → IsWritten (K.bytes_held out.old) (K.bytes_held out.new) (run_lines result.mounts.items result.said.items) result.status }
-    ensures made_output { (path : List ℕ) (g : Geometry) → IsMake words.now path g
-        → IsWritten (K.bytes_held out.old) (K.bytes_held out.new) (make_lines (sectors_of g)) result.status }
+    // What is written tells the run's own status, in whose place another comes where the sink fails or memory lacks.
+    ensures output { ((path : List ℕ) (g : Geometry) → IsMake words.now path g → ⊥) → (own : Status) × Yields result.status own
+        × IsWritten (K.bytes_held out.old) (K.bytes_held out.new) (run_lines result.mounts.items result.said.items) own result.status }
+    ensures made_output { (path : List ℕ) (g : Geometry) → IsMake words.now path g → (own : Status) × Yields result.status own
+        × Makes I.Disk.told I.Disk.cells I.Disk.sector_count I.Disk.fault_count path g (I.given images.old) (I.given images.new) result.disk own
+        × IsWritten (K.bytes_held out.old) (K.bytes_held out.new) (make_lines (sectors_of g)) own result.status }
 
     // When each status comes.
     ensures usage { IsUsage words.now result.status }

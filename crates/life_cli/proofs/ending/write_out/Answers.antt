@@ -14,10 +14,10 @@ returns-in-Ok-clause-output g c lines printed =
     let text : c.as_bytes.result.now ≡ output_of lines ended =
     c.as_bytes.ensures.value ∙ text_of c.args.printed c.in-Ok.text (λ (t : String Global). string_bytes t ≡ output_of lines ended) c.in-Ok.is printed in
     rw c.with_status.ensures
-    (ended, inl (subst (λ (l : List ℕ). AppendsPrefix (g.K.Sink.bytes_held c.args.out.now) (g.K.Sink.bytes_held c.write_whole.new.out) l) text c.in-Err-write_whole.ensures.prefix))
+    (inl (subst (λ (l : List ℕ). AppendsPrefix (g.K.Sink.bytes_held c.args.out.now) (g.K.Sink.bytes_held c.write_whole.new.out) l) text c.in-Err-write_whole.ensures.prefix))
 
 pub returns-clause-output : goal.returns-clause-output
 returns-clause-output g c lines printed =
     let text = c.as_bytes-in-Err.ensures.value ∙ c.no_memory_line.ensures in
     rw c.with_status-in-Err-write_whole-2.ensures
-    (c.args.ended.status, inr (subst (λ (l : List ℕ). AppendsPrefix (g.K.Sink.bytes_held c.args.out.now) (g.K.Sink.bytes_held c.write_whole-in-Err.new.out) l) text c.in-Err-write_whole-2.ensures.prefix))
+    (inr (subst (λ (l : List ℕ). AppendsPrefix (g.K.Sink.bytes_held c.args.out.now) (g.K.Sink.bytes_held c.write_whole-in-Err.new.out) l) text c.in-Err-write_whole-2.ensures.prefix))

@@ -3,10 +3,11 @@ use Rattle.std.specs.Option.{IfSome}
 use Rattle.disk_model.specs.Images.{attached}
 use Rattle.geometry.specs.declared.shape.Geometry.{Geometry}
 use Rattle.thin_run.specs.Outcome.{Caused}
+use Rattle.thin_run.specs.declared.types.Status.{Status}
 use Rattle.life_cli.specs.Making.{Makes, sectors_of}
-use Rattle.life_cli.specs.Outcome.{IsEarly, IsWritten}
+use Rattle.life_cli.specs.Outcome.{IsEarly, IsWritten, Yields}
 use Rattle.life_cli.specs.Texts.{make_lines}
-use Rattle.life_cli.proofs.Makings.{at_one, at_path, created_back, Makes-written}
+use Rattle.life_cli.proofs.Makings.{at_one, at_path, created_back, Makes-on, Makes-written}
 use Rattle.life_cli.proofs.Statuses.{CompletesAs-from, FaultsExactly-from, IsTooLongExactly-from, given_causes}
 use Rattle.life_cli.proofs.top.top.Goals as goal
 
@@ -50,10 +51,26 @@ returns-in-Some-Make-clause-makes g c path geometry is =
 
 pub returns-in-Some-Make-clause-made_output : goal.returns-in-Some-Make-clause-made_output
 returns-in-Some-Make-clause-made_output g c path geometry is =
+    let own = c.run_make.result.status in
     at_one
-    (λ (p : List ℕ) (k : Geometry). IsWritten (g.K.Sink.bytes_held c.args.out.now) (g.K.Sink.bytes_held c.write_make.new.out) (make_lines (sectors_of k))
-    c.write_make.result.status) c.args.words.now
-    c.in-Some-Make.path.now path c.in-Some-Make.geometry geometry (rw c.in-Some-Make.field-0-is at c.in-Some-Make.ensures) is c.write_make.ensures.output
+    (λ (p : List ℕ) (k : Geometry). (o : Status) × Yields c.write_make.result.status o
+    × Makes g.I.Disk.Disk.told g.I.Disk.Disk.cells g.I.Disk.Disk.sector_count g.I.Disk.Disk.fault_count p k
+    (g.I.Images.given c.args.images.now) (g.I.Images.given c.run_make.new.images) c.write_make.result.disk o
+    × IsWritten (g.K.Sink.bytes_held c.args.out.now) (g.K.Sink.bytes_held c.write_make.new.out) (make_lines (sectors_of k)) o c.write_make.result.status)
+    c.args.words.now c.in-Some-Make.path.now path c.in-Some-Make.geometry geometry (rw c.in-Some-Make.field-0-is at c.in-Some-Make.ensures) is (
+      own,
+      c.write_make.ensures.status,
+      Makes-on g.I.Disk.Disk.told g.I.Disk.Disk.cells g.I.Disk.Disk.sector_count g.I.Disk.Disk.fault_count c.in-Some-Make.path.now c.in-Some-Make.geometry
+          (g.I.Images.given c.args.images.now) (g.I.Images.given c.run_make.new.images) c.run_make.result.disk c.write_make.result.disk own
+          c.write_make.ensures.disk c.run_make.ensures.makes,
+      c.write_make.ensures.output,
+    )
+
+pub returns-in-Some-Steps-clause-output : goal.returns-in-Some-Steps-clause-output
+returns-in-Some-Steps-clause-output g c no_make = (c.run_steps.result.status, c.write_run.ensures.status, c.write_run.ensures.output)
+
+pub returns-in-None-clause-output : goal.returns-in-None-clause-output
+returns-in-None-clause-output g c no_make = (c.ended_early.result.status, c.write_run-in-None.ensures.status, c.write_run-in-None.ensures.output)
 
 pub returns-in-Some-Make-clause-handed_back : goal.returns-in-Some-Make-clause-handed_back
 returns-in-Some-Make-clause-handed_back g c =
