@@ -1,0 +1,6 @@
+//! What changes of an image that spells a table, when the table and its layouts change. There is no code: it is definitions (`specs/`) and laws.
+#![tactic(auto)]
+
+mod laws;
+
+pub use laws::images_tell_changes;
