@@ -1,2 +1,6 @@
 pub mod Places
 pub mod Overlaid
+pub mod Groups
+pub mod Inodes
+pub mod Chunks
+pub mod Buckets

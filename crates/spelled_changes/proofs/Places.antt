@@ -4,6 +4,7 @@ use Rattle.std.specs.Prelude.{◌&&◌, sum_by}
 use Rattle.std.specs.List.{range_with_len}
 use Rattle.std.proofs.lemmas.Bool.{eqb-true}
 use Rattle.std.specs.Option.{option_map}
+use Rattle.life_limits.specs.declared.TheConstants.{BLOCK_SECTORS, BUCKETS, CHUNK_INODES}
 use Rattle.geometry.specs.declared.shape.Geometry.{Geometry}
 use Rattle.ag_header.specs.Headers.{spelling as header_spelling}
 use Rattle.ag_header.specs.declared.agi.Agi.{Agi}
@@ -23,7 +24,7 @@ header_made g group chunks page heads =
     record {
       group = group;
       blocks = g.blocks;
-      count = 64 * length chunks;
+      count = CHUNK_INODES * length chunks;
       root = page;
       level = 1;
       free = sum_by (λ (chunk : Chunk). free_count chunk.inodes) chunks;
@@ -66,52 +67,52 @@ pub same_metadata : (g : Geometry) (layouts others : Layouts) (group : ℕ) (chu
 unfolding page_place
 same_metadata g layouts others group chunks next place page header map_part leaf inode =
     by_tests g others group next place
-    ∙ ap (λ (p : ℕ). chosen (eqb place 2) (is_bitmap place) (is_page (8 * p) place) (Some (header_spelling (header_for g group next others)))
-    (Some (part (place - 8) (bitmap (free_set g.blocks next)))) (Some (part (place - 8 * p) (page_bytes g others group next)))
+    ∙ ap (λ (p : ℕ). chosen (eqb place 2) (is_bitmap place) (is_page (BLOCK_SECTORS * p) place) (Some (header_spelling (header_for g group next others)))
+    (Some (part (place - 8) (bitmap (free_set g.blocks next)))) (Some (part (place - BLOCK_SECTORS * p) (page_bytes g others group next)))
     (option_map (inode_sector g others group place) (inode_in next place))) page
-    ∙ same_cases (eqb place 2) (is_bitmap place) (is_page (8 * page_of layouts group) place) _ _ _ _ _ _ _ _
+    ∙ same_cases (eqb place 2) (is_bitmap place) (is_page (BLOCK_SECTORS * page_of layouts group) place) _ _ _ _ _ _ _ _
     (λ e. ap (λ (h : Agi). Some (header_spelling h)) (header (eqb-true place 2 e)))
     (λ e. ap (λ (l : List ℕ). Some l) (map_part e))
-    (λ e. ap (λ (l : List ℕ). Some (part (place - 8 * page_of layouts group) l)) (leaf e))
+    (λ e. ap (λ (l : List ℕ). Some (part (place - BLOCK_SECTORS * page_of layouts group) l)) (leaf e))
     (λ e. inode)
     ∙ sym (by_tests g layouts group chunks place)
 
 -- the header, the page and an inode, by the layout of the group
-header_by : (g : Geometry) (layouts others : Layouts) (group : ℕ) (chunks : Group) → layout_of others group ≡ layout_of layouts group
+pub header_by : (g : Geometry) (layouts others : Layouts) (group : ℕ) (chunks : Group) → layout_of others group ≡ layout_of layouts group
     → header_for g group chunks others ≡ header_for g group chunks layouts
 unfolding header_for page_of list_of
-header_by g layouts others group chunks same = ap (λ (l : Layout). header_made g group chunks l.page (map (λ bucket. head_of (get_or l.buckets bucket [])) (range_with_len 0 64))) same
+header_by g layouts others group chunks same = ap (λ (l : Layout). header_made g group chunks l.page (map (λ bucket. head_of (get_or l.buckets bucket [])) (range_with_len 0 BUCKETS))) same
 
-page_by : (g : Geometry) (layouts others : Layouts) (group : ℕ) (chunks : Group) → page_of others group ≡ page_of layouts group
+pub page_by : (g : Geometry) (layouts others : Layouts) (group : ℕ) (chunks : Group) → page_of others group ≡ page_of layouts group
     → page_bytes g others group chunks ≡ page_bytes g layouts group chunks
 unfolding page_bytes page_place
-page_by g layouts others group chunks same = ap (λ (n : ℕ). page_spelling (map record_of chunks) group (sector_in g group (8 * n)) g.uuid) same
+page_by g layouts others group chunks same = ap (λ (n : ℕ). page_spelling (map record_of chunks) group (sector_in g group (BLOCK_SECTORS * n)) g.uuid) same
 
-inode_by : (g : Geometry) (layouts others : Layouts) (group agino : ℕ) (inode : Option Inode)
-    → next_in (list_of others group (agino % 64)) agino ≡ next_in (list_of layouts group (agino % 64)) agino
+pub inode_by : (g : Geometry) (layouts others : Layouts) (group agino : ℕ) (inode : Option Inode)
+    → next_in (list_of others group (agino % BUCKETS)) agino ≡ next_in (list_of layouts group (agino % BUCKETS)) agino
     → option_map (inode_sector g others group agino) inode ≡ option_map (inode_sector g layouts group agino) inode
 unfolding inode_sector
 inode_by g layouts others group agino None same = refl
 inode_by g layouts others group agino (Some inode) same =
     ap (λ (n : ℕ). Some (core_spelling (core_for inode.generation inode.row n) (number_in group agino) g.uuid (fork_for group inode.row))) same
 
-list_by : (layouts others : Layouts) (group bucket : ℕ) → layout_of others group ≡ layout_of layouts group → list_of others group bucket ≡ list_of layouts group bucket
+pub list_by : (layouts others : Layouts) (group bucket : ℕ) → layout_of others group ≡ layout_of layouts group → list_of others group bucket ≡ list_of layouts group bucket
 unfolding list_of
 list_by layouts others group bucket same = ap (λ (l : Layout). get_or l.buckets bucket []) same
 
-page_same : (layouts others : Layouts) (group : ℕ) → layout_of others group ≡ layout_of layouts group → page_of others group ≡ page_of layouts group
+pub page_same : (layouts others : Layouts) (group : ℕ) → layout_of others group ≡ layout_of layouts group → page_of others group ≡ page_of layouts group
 unfolding page_of
 page_same layouts others group same = ap (λ (l : Layout). l.page) same
 
 -- a group whose layout and chunks stay
-same_layout : (g : Geometry) (layouts others : Layouts) (group : ℕ) (chunks : Group) (place : ℕ) → layout_of others group ≡ layout_of layouts group
+pub same_layout : (g : Geometry) (layouts others : Layouts) (group : ℕ) (chunks : Group) (place : ℕ) → layout_of others group ≡ layout_of layouts group
     → metadata g others group chunks place ≡ metadata g layouts group chunks place
 same_layout g layouts others group chunks place same =
     same_metadata g layouts others group chunks chunks place (page_same layouts others group same)
     (λ e. header_by g layouts others group chunks same)
     (λ e. refl)
     (λ e. page_by g layouts others group chunks (page_same layouts others group same))
-    (inode_by g layouts others group place (inode_in chunks place) (ap (λ (l : List ℕ). next_in l place) (list_by layouts others group (place % 64) same)))
+    (inode_by g layouts others group place (inode_in chunks place) (ap (λ (l : List ℕ). next_in l place) (list_by layouts others group (place % BUCKETS) same)))
 
 pub elsewhere : (g : Geometry) (layouts others : Layouts) (group : ℕ) (chunks next : Group) (place : ℕ) → layout_of others group ≡ layout_of layouts group → next ≡ chunks
     → metadata g others group next place ≡ metadata g layouts group chunks place

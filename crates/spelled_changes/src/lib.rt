@@ -3,4 +3,6 @@
 
 mod laws;
 
-pub use laws::images_tell_changes;
+pub use laws::{
+    buckets_touch_pointers, chunks_touch_themselves, images_tell_changes, inodes_touch_themselves,
+};
