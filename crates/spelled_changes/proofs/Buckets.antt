@@ -31,11 +31,11 @@ next-none : (place : ℕ) → next_in [] place ≡ NO_INODE
 unfolding next_in
 next-none place = refl
 
-without-here : (member : ℕ) (members : List ℕ) (agino : ℕ) → member ≡ agino → without (member ∷ members) agino ≡ without members agino
+pub without-here : (member : ℕ) (members : List ℕ) (agino : ℕ) → member ≡ agino → without (member ∷ members) agino ≡ without members agino
 without-here member members agino same =
     ap (λ (b : Bool). cond (not b) (member ∷ without members agino) (without members agino)) (eq-eqb member agino same)
 
-without-later : (member : ℕ) (members : List ℕ) (agino : ℕ) → member ≢ agino → without (member ∷ members) agino ≡ member ∷ without members agino
+pub without-later : (member : ℕ) (members : List ℕ) (agino : ℕ) → member ≢ agino → without (member ∷ members) agino ≡ member ∷ without members agino
 without-later member members agino apart =
     ap (λ (b : Bool). cond (not b) (member ∷ without members agino) (without members agino)) (ne_eqb member agino apart)
 
@@ -69,11 +69,15 @@ next-without (member ∷ members) agino place other differs =
 
 -- ---- what points at an inode that stands once
 
-times-cons : (b x : ℕ) (xs : List ℕ) → times b (x ∷ xs) ≡ cond (eqb b x) 1 0 + times b xs
+pub times-nil : (b : ℕ) → times b [] ≡ 0
+unfolding times
+times-nil b = refl
+
+pub times-cons : (b x : ℕ) (xs : List ℕ) → times b (x ∷ xs) ≡ cond (eqb b x) 1 0 + times b xs
 unfolding times
 times-cons b x xs = refl
 
-times-here : (b x : ℕ) (xs : List ℕ) → x ≡ b → times b (x ∷ xs) ≡ 1 + times b xs
+pub times-here : (b x : ℕ) (xs : List ℕ) → x ≡ b → times b (x ∷ xs) ≡ 1 + times b xs
 times-here b x xs e = times-cons b x xs ∙ ap (λ (n : ℕ). n + times b xs) (cond-true (eqb b x) 1 0 (eq-eqb b x (sym e)))
 
 times-tail : (b x : ℕ) (xs : List ℕ) → times b xs ≤ times b (x ∷ xs)

@@ -50,6 +50,22 @@ inode_in-set_other (chunk ∷ chunks) agino other new apart =
       | false ↦ λ is. ap (λ o. cond (eqb chunk.start (start_of other)) (slice_get chunk.inodes (other % CHUNK_INODES)) o) (inode_in-set_other chunks agino other new apart)
     ] refl
 
+slice_get-set_same : {X : Type 0} (xs : List X) (i : ℕ) (old new : X) → slice_get xs i ≡ Some old → slice_get (slice_set xs i new) i ≡ Some new
+slice_get-set_same [] i old new at = absurd (none-some old at)
+slice_get-set_same (x ∷ xs) zero old new at = refl
+slice_get-set_same (x ∷ xs) (suc i) old new at = slice_get-set_same xs i old new at
+
+pub inode_in-set_same : (group : Group) (agino : ℕ) (old new : Inode) → inode_in group agino ≡ Some old → inode_in (set_inode group agino new) agino ≡ Some new
+unfolding inode_in set_inode
+inode_in-set_same [] agino old new at = absurd (none-some old at)
+inode_in-set_same (chunk ∷ chunks) agino old new at =
+    elim (eqb chunk.start (start_of agino)) as (λ c. eqb chunk.start (start_of agino) ≡ c
+    → cond c (slice_get chunk.inodes (agino % CHUNK_INODES)) (inode_in chunks agino) ≡ Some old
+    → inode_in (cond c (record { start = chunk.start; inodes = slice_set chunk.inodes (agino % CHUNK_INODES) new } ∷ chunks) (chunk ∷ set_inode chunks agino new)) agino ≡ Some new) [
+      | true ↦ λ is here. rw is (slice_get-set_same chunk.inodes (agino % CHUNK_INODES) old new here)
+      | false ↦ λ is here. rw is (inode_in-set_same chunks agino old new here)
+    ] refl at
+
 -- ---- the records
 
 abbrev unused : Inode → Bool

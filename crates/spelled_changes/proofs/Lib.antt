@@ -4,3 +4,5 @@ pub mod Groups
 pub mod Inodes
 pub mod Chunks
 pub mod Buckets
+pub mod Rows
+pub mod Follow

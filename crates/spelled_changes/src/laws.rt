@@ -1,6 +1,6 @@
 // Laws of the definitions. Each is the contract of a function that does nothing.
 
-ghost use Rattle.std.specs.Prelude.{◌≡◌, ◌≢◌, ◌⊎◌, ◌≤◌, ◌<◌, ◌*◌, ◌%◌, ℕ, List, Some, is_none, length};
+ghost use Rattle.std.specs.Prelude.{◌≡◌, ◌≢◌, ◌⊎◌, ◌≤◌, ◌<◌, ◌*◌, ◌%◌, ℕ, true, false, List, None, Some, is_none, length};
 ghost use Rattle.life_limits.specs.declared.TheConstants.{BUCKETS, NO_INODE};
 ghost use Rattle.life_bytes.specs.declared.sector.Sector.{Sector};
 ghost use Rattle.geometry.specs.declared.shape.Geometry.{Geometry};
@@ -10,12 +10,13 @@ ghost use Rattle.log_record.specs.declared.image.Image.{Image};
 ghost use Rattle.life_table.specs.declared.table.Table.{Table};
 ghost use Rattle.life_table.specs.declared.table.Inode.{Inode};
 ghost use Rattle.life_table.specs.declared.table.Chunk.{Chunk};
-ghost use Rattle.life_table.specs.Table.{Group, group_of, inode_in, set_inode};
-ghost use Rattle.life_table.specs.Space.{times, insert_chunk};
+ghost use Rattle.life_table.specs.Table.{Group, group_of, inode_in, set_inode, start_of, with_group};
+ghost use Rattle.life_table.specs.Space.{times, insert_chunk, new_chunk};
+ghost use Rattle.life_table.specs.WellFormed.{IsTable};
 ghost use Rattle.sound_image.specs.Places.{header_place};
-ghost use Rattle.sound_image.specs.Spelling.{Layouts, head_of, list_of, next_in, spelled};
+ghost use Rattle.sound_image.specs.Spelling.{Layouts, AreLayouts, CanSpell, head_of, is_unlinked_row, layout_of, list_of, next_in, spelled};
 ghost use Rattle.spelled_changes.specs.Tell.{ChangesOnly, Stays, Tell, TellGroup};
-ghost use Rattle.spelled_changes.specs.Changes.{HaveSameBlocks, IsOfBitmap, IsOfChunk, IsOfPage, PutsFirst, TakesOut};
+ghost use Rattle.spelled_changes.specs.Changes.{HaveSameBlocks, IsOfBitmap, IsOfChunk, IsOfPage, PutsFirst, TakesOut, put_in, taken_from};
 
 /// A law: images that tell a change, put over what spells the table before it, give what spells the table after it. Where one group alone has changed,
 /// images that tell how that group changes are such.
@@ -57,4 +58,53 @@ pub fn buckets_touch_pointers()
         → next_in members first ≡ agino → next_in members second ≡ agino → first ≡ second }
     ensures none_before { (members : List ℕ) (agino other : ℕ) → times agino members ≤ 1 → agino ≢ NO_INODE
         → head_of members ≡ agino → next_in members other ≢ agino }
+{}
+
+/// A law: an inode that comes to be without links, and is put into its bucket, touches the header and its sector; one that is no more without links, or no
+/// more in use, and is taken out of its bucket, touches its sector and what pointed at it. Both touch the page too, and the second the header too, where the
+/// inode comes or goes; and both touch the bitmap too where its blocks differ.
+pub fn rows_touch_their_bucket()
+    ensures put { (g : Geometry) (layouts others : Layouts) (group : ℕ) (chunks : Group) (agino : ℕ) (old new : Inode) (place : ℕ)
+        → PutsFirst layouts others group agino → inode_in chunks agino ≡ Some old → place ≢ agino → place ≢ header_place
+        → (is_none new.row ≡ is_none old.row) ⊎ ¬ IsOfPage layouts group place
+        → HaveSameBlocks old new ⊎ ¬ IsOfBitmap place
+        → Stays g group layouts chunks others (set_inode chunks agino new) place }
+    ensures taken { (g : Geometry) (layouts others : Layouts) (group : ℕ) (chunks : Group) (agino : ℕ) (old new : Inode) (place : ℕ)
+        → TakesOut layouts others group agino → inode_in chunks agino ≡ Some old → place ≢ agino
+        → (place ≢ header_place) ⊎ (head_of (list_of layouts group (agino % BUCKETS)) ≢ agino)
+        → next_in (list_of layouts group (agino % BUCKETS)) place ≢ agino
+        → (is_none new.row ≡ is_none old.row) ⊎ ((place ≢ header_place) × ¬ IsOfPage layouts group place)
+        → HaveSameBlocks old new ⊎ ¬ IsOfBitmap place
+        → Stays g group layouts chunks others (set_inode chunks agino new) place }
+{}
+
+/// A law: where a group of a table is replaced, and no layout but its own, it alone has changed, and the image can spell the next table where that is well
+/// formed and has these layouts. An inode put first in its bucket, and one taken out, change the layout of their group alone.
+pub fn groups_change_alone()
+    ensures own { (t : Table) (group : ℕ) (chunks : Group) → group < length t.groups → group_of (with_group t group chunks) group ≡ chunks }
+    ensures only { (t : Table) (layouts others : Layouts) (group : ℕ) (chunks : Group) → ((other : ℕ) → other ≢ group → layout_of others other ≡ layout_of layouts other)
+        → ChangesOnly group t layouts (with_group t group chunks) others }
+    ensures spells { (g : Geometry) (t : Table) (layouts others : Layouts) (image : List Sector) (group : ℕ) (chunks : Group) → CanSpell g t layouts image
+        → IsTable (with_group t group chunks) → AreLayouts (with_group t group chunks) others → CanSpell g (with_group t group chunks) others image }
+    ensures put { (layouts : Layouts) (group agino : ℕ) → group < length layouts → length (layout_of layouts group).buckets ≡ BUCKETS
+        → PutsFirst layouts (put_in layouts group agino) group agino }
+    ensures taken { (layouts : Layouts) (group agino : ℕ) → group < length layouts → length (layout_of layouts group).buckets ≡ BUCKETS
+        → TakesOut layouts (taken_from layouts group agino) group agino }
+{}
+
+/// A law: layouts of a table are layouts of the next one where no inode of a group comes to be without links and none ceases to be; where one comes to be,
+/// once it is put into its bucket; and where one ceases to be, once it is taken out of it.
+pub fn layouts_follow_the_table()
+    ensures same { (t : Table) (layouts : Layouts) (group agino : ℕ) (old new : Inode) → AreLayouts t layouts → group < length t.groups
+        → inode_in (group_of t group) agino ≡ Some old → is_unlinked_row new.row ≡ is_unlinked_row old.row
+        → AreLayouts (with_group t group (set_inode (group_of t group) agino new)) layouts }
+    ensures put { (t : Table) (layouts others : Layouts) (group agino : ℕ) (old new : Inode) → AreLayouts t layouts → group < length t.groups
+        → inode_in (group_of t group) agino ≡ Some old → is_unlinked_row old.row ≡ false → is_unlinked_row new.row ≡ true → PutsFirst layouts others group agino
+        → AreLayouts (with_group t group (set_inode (group_of t group) agino new)) others }
+    ensures taken { (t : Table) (layouts others : Layouts) (group agino : ℕ) (old new : Inode) → AreLayouts t layouts → group < length t.groups
+        → inode_in (group_of t group) agino ≡ Some old → is_unlinked_row new.row ≡ false → TakesOut layouts others group agino
+        → AreLayouts (with_group t group (set_inode (group_of t group) agino new)) others }
+    ensures chunk { (t : Table) (layouts : Layouts) (group block : ℕ) → AreLayouts t layouts → group < length t.groups
+        → ((agino : ℕ) → start_of agino ≡ (new_chunk block).start → inode_in (group_of t group) agino ≡ None)
+        → AreLayouts (with_group t group (insert_chunk (new_chunk block) (group_of t group))) layouts }
 {}
