@@ -6,3 +6,4 @@ pub mod Chunks
 pub mod Buckets
 pub mod Rows
 pub mod Follow
+pub mod OneList

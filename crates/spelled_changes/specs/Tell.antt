@@ -1,5 +1,6 @@
 -- Images that tell a change of the groups of an image: put over what spells a table, they give what spells the next one.
 use Rattle.std.specs.Prelude.{◌≡◌, ◌≢◌, ◌⊎◌, ◌<◌, ℕ, List, Some, All, Contains, map}
+use Rattle.std.specs.List.Sorted.{IsStrictlyIncreasing}
 use Rattle.geometry.specs.declared.shape.Geometry.{Geometry}
 use Rattle.geometry.specs.Places.{group_sectors}
 use Rattle.log_record.specs.declared.image.Image.{Image}
@@ -27,6 +28,12 @@ Stays g group layouts chunks others next place = metadata g others group next pl
 pub record TellGroup (g : Geometry) (group : ℕ) (layouts : Layouts) (chunks : Group) (others : Layouts) (next : Group) (images : List Image) : Type 0 where
   pub right : All (IsOfGroup g others group next) images
   pub whole : (place : ℕ) → place < group_sectors g → Stays g group layouts chunks others next place ⊎ Contains (homes images) (sector_in g group place)
+
+-- The images of how a group changes: by ascending home, the sectors of which the format then says something else, and no others.
+pub record AreImagesOf (g : Geometry) (group : ℕ) (layouts : Layouts) (chunks : Group) (others : Layouts) (next : Group) (images : List Image) : Type 0 where
+  pub tell : TellGroup g group layouts chunks others next images
+  pub ascend : IsStrictlyIncreasing (homes images)
+  pub differ : (place : ℕ) → place < group_sectors g → Contains (homes images) (sector_in g group place) → ¬ Stays g group layouts chunks others next place
 
 -- the image is of some group of a table
 abbrev pub IsOfTable : Geometry → Layouts → Table → Image → Type 0

@@ -15,11 +15,11 @@ ghost use Rattle.life_table.specs.Space.{times, insert_chunk, new_chunk};
 ghost use Rattle.life_table.specs.WellFormed.{IsTable};
 ghost use Rattle.sound_image.specs.Places.{header_place};
 ghost use Rattle.sound_image.specs.Spelling.{Layouts, AreLayouts, CanSpell, head_of, is_unlinked_row, layout_of, list_of, next_in, spelled};
-ghost use Rattle.spelled_changes.specs.Tell.{ChangesOnly, Stays, Tell, TellGroup};
+ghost use Rattle.spelled_changes.specs.Tell.{AreImagesOf, ChangesOnly, Stays, Tell, TellGroup};
 ghost use Rattle.spelled_changes.specs.Changes.{HaveSameBlocks, IsOfBitmap, IsOfChunk, IsOfPage, PutsFirst, TakesOut, put_in, taken_from};
 
 /// A law: images that tell a change, put over what spells the table before it, give what spells the table after it. Where one group alone has changed,
-/// images that tell how that group changes are such.
+/// images that tell how that group changes are such. The images of a change, those of the sectors that it changes alone, are one list.
 pub fn images_tell_changes()
     ensures spelled { (g : Geometry) (t u : Table) (layouts others : Layouts) (image : List Sector) (images : List Image)
         → g.groups * group_sectors g ≤ length image → Tell g t layouts u others images
@@ -27,6 +27,12 @@ pub fn images_tell_changes()
     ensures one_group { (g : Geometry) (t u : Table) (layouts others : Layouts) (group : ℕ) (images : List Image)
         → group < g.groups → ChangesOnly group t layouts u others
         → TellGroup g group layouts (group_of t group) others (group_of u group) images → Tell g t layouts u others images }
+    ensures in_group { (g : Geometry) (t : Table) (layouts others : Layouts) (image : List Sector) (group : ℕ) (next : Group) (images : List Image)
+        → CanSpell g t layouts image → group < g.groups → ((other : ℕ) → other ≢ group → layout_of others other ≡ layout_of layouts other)
+        → TellGroup g group layouts (group_of t group) others next images
+        → overlaid (spelled g t layouts image) images ≡ spelled g (with_group t group next) others image }
+    ensures one_list { (g : Geometry) (group : ℕ) (layouts others : Layouts) (chunks next : Group) (first second : List Image)
+        → AreImagesOf g group layouts chunks others next first → AreImagesOf g group layouts chunks others next second → first ≡ second }
 {}
 
 /// A law: another inode at a number touches its sector alone; the header and the page too where one of the two is in use and the other is not; the bitmap

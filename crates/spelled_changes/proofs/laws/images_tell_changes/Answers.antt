@@ -1,3 +1,4 @@
+use Rattle.spelled_changes.proofs.OneList.{told_in_group, one_list}
 use Rattle.spelled_changes.proofs.Overlaid.{of_one_group, told}
 use Rattle.spelled_changes.proofs.laws.images_tell_changes.Goals as goal
 
@@ -6,3 +7,9 @@ returns-clause-spelled c = told
 
 pub returns-clause-one_group : goal.returns-clause-one_group
 returns-clause-one_group c = of_one_group
+
+pub returns-clause-in_group : goal.returns-clause-in_group
+returns-clause-in_group c = told_in_group
+
+pub returns-clause-one_list : goal.returns-clause-one_list
+returns-clause-one_list c = one_list
