@@ -19,15 +19,15 @@ use Rattle.spelled_changes.proofs.Buckets.{times-cons, times-here, times-nil, wi
 use Rattle.spelled_changes.proofs.Rows.{own_group, other_group}
 
 -- how often a number is to stand in a list
-abbrev wanted : ℕ → ℕ → Bool → ℕ
+abbrev pub wanted : ℕ → ℕ → Bool → ℕ
 wanted agino bucket unlinked = cond ((eqb (agino % BUCKETS) bucket) && unlinked) 1 0
 
 -- how often it does in the lists of a group
-abbrev Kept : Layouts → ℕ → Group → Type 0
+abbrev pub Kept : Layouts → ℕ → Group → Type 0
 Kept layouts group chunks = (bucket agino : ℕ) → bucket < BUCKETS → times agino (list_of layouts group bucket) ≡ wanted agino bucket (is_unlinked (inode_in chunks agino))
 
 -- layouts of a table of which one group was replaced
-replaced : (t : Table) (layouts others : Layouts) (group : ℕ) (chunks : Group) → AreLayouts t layouts → group < length t.groups
+pub replaced : (t : Table) (layouts others : Layouts) (group : ℕ) (chunks : Group) → AreLayouts t layouts → group < length t.groups
     → page_of others group ≡ page_of layouts group → ((other : ℕ) → other ≢ group → layout_of others other ≡ layout_of layouts other)
     → Kept others group chunks → AreLayouts (with_group t group chunks) others
 replaced t layouts others group chunks are lt page groups kept =
@@ -52,7 +52,7 @@ replaced t layouts others group chunks are lt page groups kept =
       ];
     }
 
-kept_before : (t : Table) (layouts : Layouts) (group : ℕ) → AreLayouts t layouts → group < length t.groups → Kept layouts group (group_of t group)
+pub kept_before : (t : Table) (layouts : Layouts) (group : ℕ) → AreLayouts t layouts → group < length t.groups → Kept layouts group (group_of t group)
 kept_before t layouts group are lt = λ bucket agino low. are.buckets group bucket agino lt low
 
 -- ---- what is wanted

@@ -117,7 +117,7 @@ inode_first : (b : ℕ) (x : Inode) (xs : List Inode) → times b (inode_blocks 
 unfolding inode_blocks
 inode_first b x xs = times-append b (row_blocks x.row) (inode_blocks xs)
 
-used_first : (b : ℕ) (c : Chunk) (cs : Group) → times b (used (c ∷ cs)) ≡ (times b (chunk_blocks c) + times b (inode_blocks c.inodes)) + times b (used cs)
+pub used_first : (b : ℕ) (c : Chunk) (cs : Group) → times b (used (c ∷ cs)) ≡ (times b (chunk_blocks c) + times b (inode_blocks c.inodes)) + times b (used cs)
 unfolding used
 used_first b c cs =
     times-append b (chunk_blocks c ++ inode_blocks c.inodes) (used cs)

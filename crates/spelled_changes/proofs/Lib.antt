@@ -7,3 +7,5 @@ pub mod Buckets
 pub mod Rows
 pub mod Follow
 pub mod OneList
+pub mod Tables
+pub mod Prepared

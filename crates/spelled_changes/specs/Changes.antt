@@ -1,11 +1,11 @@
 -- How the layouts of a table change, and what a change of an inode may touch beside its sector.
-use Rattle.std.specs.Prelude.{◌≡◌, ◌≢◌, ◌+◌, ◌%◌, ◌<◌, ◌≤◌, ℕ, List, ◌∷◌, slice_set}
-use Rattle.life_limits.specs.declared.TheConstants.{BLOCK_SECTORS, BUCKETS, CHUNK_INODES}
+use Rattle.std.specs.Prelude.{◌≡◌, ◌≢◌, ◌+◌, ◌/◌, ◌%◌, ◌<◌, ◌≤◌, ℕ, Bool, true, false, List, ◌∷◌, slice_set}
+use Rattle.life_limits.specs.declared.TheConstants.{BLOCK_SECTORS, BUCKETS, CHUNK_INODES, GROUP_NUMBERS}
 use Rattle.agi_buckets.specs.Buckets.{put_first, take_out, without}
 use Rattle.life_table.specs.declared.table.Inode.{Inode}
 use Rattle.life_table.specs.Space.{times, row_blocks}
 use Rattle.sound_image.specs.Places.{bitmap_place, bitmap_sectors}
-use Rattle.sound_image.specs.Spelling.{Layouts, layout_of, page_of, page_place, list_of}
+use Rattle.sound_image.specs.Spelling.{Layouts, layout_of, page_of, page_place, list_of, is_unlinked_row}
 
 -- the place is of the bitmap of a group, of its page, of the chunk that starts at a number
 abbrev pub IsOfBitmap : ℕ → Type 0
@@ -45,3 +45,14 @@ put_in layouts group agino = with_buckets layouts group (put_first (layout_of la
 
 abbrev pub taken_from : Layouts → ℕ → ℕ → Layouts
 taken_from layouts group agino = with_buckets layouts group (take_out (layout_of layouts group).buckets agino)
+
+-- How the lists change with an inode of a group, by whether it was in use without links and whether it is then: one that comes to be is put first in its
+-- list, and one that ceases to be is taken out.
+abbrev pub Relists : Layouts → ℕ → ℕ → Bool → Bool → Layouts → Type 0
+Relists layouts group agino false true others = PutsFirst layouts others group agino
+Relists layouts group agino true false others = TakesOut layouts others group agino
+Relists layouts group agino _ _ others = others ≡ layouts
+
+-- the same for another inode at a number of the image
+abbrev pub FollowInode : Layouts → ℕ → Inode → Inode → Layouts → Type 0
+FollowInode layouts number old new others = Relists layouts (number / GROUP_NUMBERS) (number % GROUP_NUMBERS) (is_unlinked_row old.row) (is_unlinked_row new.row) others

@@ -1,22 +1,25 @@
 // Laws of the definitions. Each is the contract of a function that does nothing.
 
-ghost use Rattle.std.specs.Prelude.{◌≡◌, ◌≢◌, ◌⊎◌, ◌≤◌, ◌<◌, ◌*◌, ◌%◌, ℕ, true, false, List, None, Some, is_none, length};
-ghost use Rattle.life_limits.specs.declared.TheConstants.{BUCKETS, NO_INODE};
+ghost use Rattle.std.specs.Prelude.{◌≡◌, ◌≢◌, ◌⊎◌, ◌≤◌, ◌<◌, ◌*◌, ◌/◌, ◌%◌, ℕ, true, false, List, None, Some, is_none, length};
+ghost use Rattle.life_limits.specs.declared.TheConstants.{BUCKETS, GROUP_NUMBERS, NO_INODE};
 ghost use Rattle.life_bytes.specs.declared.sector.Sector.{Sector};
 ghost use Rattle.geometry.specs.declared.shape.Geometry.{Geometry};
 ghost use Rattle.geometry.specs.Places.{group_sectors};
 ghost use Rattle.log_image.specs.Overlay.{overlaid};
 ghost use Rattle.log_record.specs.declared.image.Image.{Image};
+ghost use Rattle.life_table.specs.declared.key.Key.{Key};
+ghost use Rattle.life_table.specs.declared.types.Row.{Row};
+ghost use Rattle.life_table.specs.Legal.{prepare};
 ghost use Rattle.life_table.specs.declared.table.Table.{Table};
 ghost use Rattle.life_table.specs.declared.table.Inode.{Inode};
 ghost use Rattle.life_table.specs.declared.table.Chunk.{Chunk};
-ghost use Rattle.life_table.specs.Table.{Group, group_of, inode_in, set_inode, start_of, with_group};
+ghost use Rattle.life_table.specs.Table.{Group, group_of, in_use, inode_in, inode_of, row_of, set_inode, start_of, with_group, with_inode};
 ghost use Rattle.life_table.specs.Space.{times, insert_chunk, new_chunk};
 ghost use Rattle.life_table.specs.WellFormed.{IsTable};
 ghost use Rattle.sound_image.specs.Places.{header_place};
 ghost use Rattle.sound_image.specs.Spelling.{Layouts, AreLayouts, CanSpell, head_of, is_unlinked_row, layout_of, list_of, next_in, spelled};
 ghost use Rattle.spelled_changes.specs.Tell.{AreImagesOf, ChangesOnly, Stays, Tell, TellGroup};
-ghost use Rattle.spelled_changes.specs.Changes.{HaveSameBlocks, IsOfBitmap, IsOfChunk, IsOfPage, PutsFirst, TakesOut, put_in, taken_from};
+ghost use Rattle.spelled_changes.specs.Changes.{FollowInode, HaveSameBlocks, IsOfBitmap, IsOfChunk, IsOfPage, PutsFirst, TakesOut, put_in, taken_from};
 
 /// A law: images that tell a change, put over what spells the table before it, give what spells the table after it. Where one group alone has changed,
 /// images that tell how that group changes are such. The images of a change, those of the sectors that it changes alone, are one list.
@@ -113,4 +116,18 @@ pub fn layouts_follow_the_table()
     ensures chunk { (t : Table) (layouts : Layouts) (group block : ℕ) → AreLayouts t layouts → group < length t.groups
         → ((agino : ℕ) → start_of agino ≡ (new_chunk block).start → inode_in (group_of t group) agino ≡ None)
         → AreLayouts (with_group t group (insert_chunk (new_chunk block) (group_of t group))) layouts }
+{}
+
+/// A law: another inode at a number of the image, with its list as it follows, leaves what the image can spell; and images that tell the change of its group
+/// give what spells the next table. So it is after each change but a create, and after a create where its group was prepared first, which leaves the layouts.
+pub fn spellings_follow_the_table()
+    ensures row { (t : Table) (key : Key) (row : Row) → row_of t key ≡ Some row → inode_of t key.number ≡ Some (in_use key row) }
+    ensures inode { (g : Geometry) (t : Table) (layouts others : Layouts) (image : List Sector) (number : ℕ) (old new : Inode) → CanSpell g t layouts image
+        → inode_of t number ≡ Some old → IsTable (with_inode t number new) → FollowInode layouts number old new others
+        → CanSpell g (with_inode t number new) others image }
+    ensures told { (g : Geometry) (t : Table) (layouts others : Layouts) (image : List Sector) (number : ℕ) (old new : Inode) (images : List Image) → CanSpell g t layouts image
+        → inode_of t number ≡ Some old → FollowInode layouts number old new others
+        → TellGroup g (number / GROUP_NUMBERS) layouts (group_of t (number / GROUP_NUMBERS)) others (set_inode (group_of t (number / GROUP_NUMBERS)) (number % GROUP_NUMBERS) new) images
+        → overlaid (spelled g t layouts image) images ≡ spelled g (with_inode t number new) others image }
+    ensures prepared { (t : Table) (layouts : Layouts) (group : ℕ) → AreLayouts t layouts → group < length t.groups → AreLayouts (prepare t group) layouts }
 {}

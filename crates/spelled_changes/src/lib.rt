@@ -6,4 +6,5 @@ mod laws;
 pub use laws::{
     buckets_touch_pointers, chunks_touch_themselves, groups_change_alone, images_tell_changes,
     inodes_touch_themselves, layouts_follow_the_table, rows_touch_their_bucket,
+    spellings_follow_the_table,
 };

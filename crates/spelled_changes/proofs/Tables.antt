@@ -1,0 +1,106 @@
+-- Another inode at a number of the image.
+use Rattle.std.proofs.Common.{◌≡◌, ◌<◌, ◌≤◌, ◌/◌, ◌%◌, ℕ, zero, suc, Bool, true, false, cond, List, [], ◌∷◌, Option, None, Some, length, get_or, eqb, inl, inr, refl, ap, sym, subst, ◌∙◌, arith}
+use Rattle.std.specs.Prelude.{◌≢◌}
+use Rattle.std.proofs.lemmas.Bool.{cases_lt, eqb-true}
+use Rattle.std.proofs.lemmas.Option.{none-some}
+use Rattle.life_limits.specs.declared.TheConstants.{GROUP_NUMBERS}
+use Rattle.life_bytes.specs.declared.sector.Sector.{Sector}
+use Rattle.geometry.specs.declared.shape.Geometry.{Geometry}
+use Rattle.log_image.specs.Overlay.{overlaid}
+use Rattle.log_record.specs.declared.image.Image.{Image}
+use Rattle.life_table.specs.declared.key.Key.{Key}
+use Rattle.life_table.specs.declared.types.Row.{Row}
+use Rattle.life_table.specs.declared.table.Inode.{Inode}
+use Rattle.life_table.specs.declared.table.Table.{Table}
+use Rattle.life_table.specs.Table.{Group, group_of, in_use, inode_in, inode_of, row_in_life, row_of, set_inode, with_group, with_inode}
+use Rattle.life_table.specs.WellFormed.{IsTable}
+use Rattle.sound_image.specs.Spelling.{Layouts, AreLayouts, CanSpell, is_unlinked_row, layout_of, spelled}
+use Rattle.spelled_changes.specs.Tell.{TellGroup}
+use Rattle.spelled_changes.specs.Changes.{FollowInode, Relists}
+use Rattle.spelled_changes.proofs.Rows.{spells_next}
+use Rattle.spelled_changes.proofs.OneList.{told_in_group}
+use Rattle.spelled_changes.proofs.Follow.{layouts_same, layouts_put, layouts_taken}
+
+-- the inode of a row
+abbrev made : ℕ → Option Row → Inode
+made generation row = record { generation = generation; row = row }
+
+in_life : (generation : ℕ) (o : Option Inode) (row : Row) → row_in_life generation o ≡ Some row → o ≡ Some (record { generation = generation; row = Some row })
+in_life generation None row e = absurd (none-some row e)
+in_life generation (Some inode) row e =
+    elim (eqb inode.generation generation) as (λ c. eqb inode.generation generation ≡ c → cond c inode.row None ≡ Some row → Some inode ≡ Some (record { generation = generation; row = Some row })) [
+      | true ↦ λ is has. ap (λ (n : ℕ). Some (made n inode.row)) (eqb-true inode.generation generation is) ∙ ap (λ (r : Option Row). Some (made generation r)) has
+      | false ↦ λ is has. absurd (none-some row has)
+    ] refl e
+
+pub row_inode : (t : Table) (key : Key) (row : Row) → row_of t key ≡ Some row → inode_of t key.number ≡ Some (in_use key row)
+row_inode t key row e = in_life key.generation (inode_of t key.number) row e
+
+-- a number with an inode is in a group of the table
+past : {X : Type 0} (xs : List X) (i : ℕ) (d : X) → length xs ≤ i → get_or xs i d ≡ d
+past [] i d high = refl
+past (x ∷ xs) zero d high = absurd (omega arith)
+past (x ∷ xs) (suc i) d high = past xs i d (omega arith)
+
+no_inode : (agino : ℕ) (inode : Inode) → inode_in [] agino ≡ Some inode → ⊥
+unfolding inode_in
+no_inode agino inode e = none-some inode e
+
+at_group : (t : Table) (number : ℕ) (inode : Inode) → inode_of t number ≡ Some inode → inode_in (group_of t (number / GROUP_NUMBERS)) (number % GROUP_NUMBERS) ≡ Some inode
+unfolding inode_of
+at_group t number inode e = e
+
+has_group : (t : Table) (number : ℕ) (inode : Inode) → inode_of t number ≡ Some inode → number / GROUP_NUMBERS < length t.groups
+has_group t number inode at =
+    elim (cases_lt (number / GROUP_NUMBERS) (length t.groups)) [
+      | inl low ↦ low
+      | inr high ↦ absurd (no_inode (number % GROUP_NUMBERS) inode
+          (ap (λ (cs : Group). inode_in cs (number % GROUP_NUMBERS)) (sym (past t.groups (number / GROUP_NUMBERS) [] high)) ∙ at_group t number inode at))
+    ]
+
+-- the lists as they follow
+relisted : (t : Table) (layouts others : Layouts) (group agino : ℕ) (old new : Inode) (was is : Bool) → AreLayouts t layouts → group < length t.groups
+    → inode_in (group_of t group) agino ≡ Some old → is_unlinked_row old.row ≡ was → is_unlinked_row new.row ≡ is → Relists layouts group agino was is others
+    → AreLayouts (with_group t group (set_inode (group_of t group) agino new)) others
+relisted t layouts others group agino old new false true are lt at e f follow = layouts_put t layouts others group agino old new are lt at e f follow
+relisted t layouts others group agino old new true false are lt at e f follow = layouts_taken t layouts others group agino old new are lt at f follow
+relisted t layouts others group agino old new false false are lt at e f follow =
+    subst (AreLayouts (with_group t group (set_inode (group_of t group) agino new))) (sym follow) (layouts_same t layouts group agino old new are lt at (f ∙ sym e))
+relisted t layouts others group agino old new true true are lt at e f follow =
+    subst (AreLayouts (with_group t group (set_inode (group_of t group) agino new))) (sym follow) (layouts_same t layouts group agino old new are lt at (f ∙ sym e))
+
+other_layouts : (layouts others : Layouts) (group agino : ℕ) (was is : Bool) → Relists layouts group agino was is others
+    → (other : ℕ) → other ≢ group → layout_of others other ≡ layout_of layouts other
+other_layouts layouts others group agino false true follow other apart = follow.groups other apart
+other_layouts layouts others group agino true false follow other apart = follow.groups other apart
+other_layouts layouts others group agino false false follow other apart = ap (λ (l : Layouts). layout_of l other) follow
+other_layouts layouts others group agino true true follow other apart = ap (λ (l : Layouts). layout_of l other) follow
+
+abbrev replaced : Table → ℕ → Inode → Table
+replaced t number new = with_group t (number / GROUP_NUMBERS) (set_inode (group_of t (number / GROUP_NUMBERS)) (number % GROUP_NUMBERS) new)
+
+with_is : (t : Table) (number : ℕ) (new : Inode) → with_inode t number new ≡ replaced t number new
+unfolding with_inode
+with_is t number new = refl
+
+pub inode_follows : (g : Geometry) (t : Table) (layouts others : Layouts) (image : List Sector) (number : ℕ) (old new : Inode) → CanSpell g t layouts image
+    → inode_of t number ≡ Some old → IsTable (with_inode t number new) → FollowInode layouts number old new others
+    → CanSpell g (with_inode t number new) others image
+inode_follows g t layouts others image number old new can at table follow =
+    let group : ℕ = number / GROUP_NUMBERS in
+    let agino : ℕ = number % GROUP_NUMBERS in
+    let same = with_is t number new in
+    subst (λ (u : Table). CanSpell g u others image) (sym same)
+    (spells_next g t layouts others image group (set_inode (group_of t group) agino new) can (subst IsTable same table)
+    (relisted t layouts others group agino old new (is_unlinked_row old.row) (is_unlinked_row new.row) can.layouts_of (has_group t number old at) (at_group t number old at) refl refl follow))
+
+pub inode_told : (g : Geometry) (t : Table) (layouts others : Layouts) (image : List Sector) (number : ℕ) (old new : Inode) (images : List Image) → CanSpell g t layouts image
+    → inode_of t number ≡ Some old → FollowInode layouts number old new others
+    → TellGroup g (number / GROUP_NUMBERS) layouts (group_of t (number / GROUP_NUMBERS)) others (set_inode (group_of t (number / GROUP_NUMBERS)) (number % GROUP_NUMBERS) new) images
+    → overlaid (spelled g t layouts image) images ≡ spelled g (with_inode t number new) others image
+inode_told g t layouts others image number old new images can at follow tell =
+    let group : ℕ = number / GROUP_NUMBERS in
+    let low : group < g.groups = omega (arith, has_group t number old at, can.groups) in
+    told_in_group g t layouts others image group (set_inode (group_of t group) (number % GROUP_NUMBERS) new) images can low
+    (other_layouts layouts others group (number % GROUP_NUMBERS) (is_unlinked_row old.row) (is_unlinked_row new.row) follow) tell
+    ∙ ap (λ (u : Table). spelled g u others image) (sym (with_is t number new))

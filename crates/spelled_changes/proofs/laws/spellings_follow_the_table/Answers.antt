@@ -1,0 +1,15 @@
+use Rattle.spelled_changes.proofs.Tables.{row_inode, inode_follows, inode_told}
+use Rattle.spelled_changes.proofs.Prepared.{layouts_prepared}
+use Rattle.spelled_changes.proofs.laws.spellings_follow_the_table.Goals as goal
+
+pub returns-clause-row : goal.returns-clause-row
+returns-clause-row c = row_inode
+
+pub returns-clause-inode : goal.returns-clause-inode
+returns-clause-inode c = inode_follows
+
+pub returns-clause-told : goal.returns-clause-told
+returns-clause-told c = inode_told
+
+pub returns-clause-prepared : goal.returns-clause-prepared
+returns-clause-prepared c = layouts_prepared
