@@ -1,8 +1,9 @@
 -- Another inode at a number of the image.
-use Rattle.std.proofs.Common.{◌≡◌, ◌<◌, ◌≤◌, ◌/◌, ◌%◌, ℕ, zero, suc, Bool, true, false, cond, List, [], ◌∷◌, Option, None, Some, length, get_or, eqb, inl, inr, refl, ap, sym, subst, ◌∙◌, arith}
+use Rattle.std.proofs.Common.{◌≡◌, ◌<◌, ◌≤◌, ◌/◌, ◌%◌, ℕ, zero, suc, Bool, true, false, cond, List, [], ◌∷◌, Option, None, Some, length, get_or, set, eqb, inl, inr, refl, ap, sym, subst, ◌∙◌, arith}
 use Rattle.std.specs.Prelude.{◌≢◌}
 use Rattle.std.proofs.lemmas.Bool.{cases_lt, eqb-true}
 use Rattle.std.proofs.lemmas.Option.{none-some}
+use Rattle.std.proofs.lemmas.List.{length-set}
 use Rattle.life_limits.specs.declared.TheConstants.{GROUP_NUMBERS}
 use Rattle.life_bytes.specs.declared.sector.Sector.{Sector}
 use Rattle.geometry.specs.declared.shape.Geometry.{Geometry}
@@ -13,11 +14,14 @@ use Rattle.life_table.specs.declared.types.Row.{Row}
 use Rattle.life_table.specs.declared.table.Inode.{Inode}
 use Rattle.life_table.specs.declared.table.Table.{Table}
 use Rattle.life_table.specs.Table.{Group, group_of, in_use, inode_in, inode_of, row_in_life, row_of, set_inode, with_group, with_inode}
+use Rattle.life_table.specs.Space.{prepared}
+use Rattle.life_table.specs.Legal.{prepare}
 use Rattle.life_table.specs.WellFormed.{IsTable}
 use Rattle.sound_image.specs.Spelling.{Layouts, AreLayouts, CanSpell, is_unlinked_row, layout_of, spelled}
 use Rattle.spelled_changes.specs.Tell.{TellGroup}
 use Rattle.spelled_changes.specs.Changes.{FollowInode, Relists}
-use Rattle.spelled_changes.proofs.Rows.{spells_next}
+use Rattle.spelled_changes.proofs.Rows.{own_group}
+use Rattle.spelled_changes.proofs.Prepared.{layouts_prepared}
 use Rattle.spelled_changes.proofs.OneList.{told_in_group}
 use Rattle.spelled_changes.proofs.Follow.{layouts_same, layouts_put, layouts_taken}
 
@@ -83,16 +87,38 @@ with_is : (t : Table) (number : ℕ) (new : Inode) → with_inode t number new �
 unfolding with_inode
 with_is t number new = refl
 
+-- what can be spelled, from its parts
+follows : (g : Geometry) (t u : Table) (layouts others : Layouts) (image : List Sector) (number : ℕ) (old new : Inode) → CanSpell g t layouts image
+    → length u.groups ≡ length t.groups → u.blocks ≡ t.blocks → AreLayouts u layouts
+    → inode_of u number ≡ Some old → IsTable (with_inode u number new) → FollowInode layouts number old new others
+    → CanSpell g (with_inode u number new) others image
+follows g t u layouts others image number old new can long blocks are at table follow =
+    let group : ℕ = number / GROUP_NUMBERS in
+    let agino : ℕ = number % GROUP_NUMBERS in
+    let same = with_is u number new in
+    let next : Table = replaced u number new in
+    subst (λ (v : Table). CanSpell g v others image) (sym same)
+    (record {
+      shape = can.shape;
+      table = subst IsTable same table;
+      groups = length-set u.groups group (set_inode (group_of u group) agino new) ∙ long ∙ can.groups;
+      blocks = blocks ∙ can.blocks;
+      layouts_of = relisted u layouts others group agino old new (is_unlinked_row old.row) (is_unlinked_row new.row) are (has_group u number old at) (at_group u number old at) refl refl follow;
+      size = can.size;
+    })
+
 pub inode_follows : (g : Geometry) (t : Table) (layouts others : Layouts) (image : List Sector) (number : ℕ) (old new : Inode) → CanSpell g t layouts image
     → inode_of t number ≡ Some old → IsTable (with_inode t number new) → FollowInode layouts number old new others
     → CanSpell g (with_inode t number new) others image
 inode_follows g t layouts others image number old new can at table follow =
-    let group : ℕ = number / GROUP_NUMBERS in
-    let agino : ℕ = number % GROUP_NUMBERS in
-    let same = with_is t number new in
-    subst (λ (u : Table). CanSpell g u others image) (sym same)
-    (spells_next g t layouts others image group (set_inode (group_of t group) agino new) can (subst IsTable same table)
-    (relisted t layouts others group agino old new (is_unlinked_row old.row) (is_unlinked_row new.row) can.layouts_of (has_group t number old at) (at_group t number old at) refl refl follow))
+    follows g t t layouts others image number old new can refl refl can.layouts_of at table follow
+
+pub inode_made : (g : Geometry) (t : Table) (layouts others : Layouts) (image : List Sector) (group number : ℕ) (old new : Inode) → CanSpell g t layouts image → group < g.groups
+    → inode_of (prepare t group) number ≡ Some old → IsTable (with_inode (prepare t group) number new) → FollowInode layouts number old new others
+    → CanSpell g (with_inode (prepare t group) number new) others image
+inode_made g t layouts others image group number old new can lt at table follow =
+    follows g t (prepare t group) layouts others image number old new can (length-set t.groups group (prepared t.blocks group (group_of t group))) refl
+    (layouts_prepared t layouts group can.layouts_of (omega (arith, lt, can.groups))) at table follow
 
 pub inode_told : (g : Geometry) (t : Table) (layouts others : Layouts) (image : List Sector) (number : ℕ) (old new : Inode) (images : List Image) → CanSpell g t layouts image
     → inode_of t number ≡ Some old → FollowInode layouts number old new others
@@ -104,3 +130,38 @@ inode_told g t layouts others image number old new images can at follow tell =
     told_in_group g t layouts others image group (set_inode (group_of t group) (number % GROUP_NUMBERS) new) images can low
     (other_layouts layouts others group (number % GROUP_NUMBERS) (is_unlinked_row old.row) (is_unlinked_row new.row) follow) tell
     ∙ ap (λ (u : Table). spelled g u others image) (sym (with_is t number new))
+
+-- a group that is replaced twice
+set_twice : {X : Type 0} (xs : List X) (i : ℕ) (x y : X) → set (set xs i x) i y ≡ set xs i y
+set_twice [] i x y = refl
+set_twice (z ∷ zs) zero x y = refl
+set_twice (z ∷ zs) (suc i) x y = ap (λ ys. z ∷ ys) (set_twice zs i x y)
+
+table_made : Table → List Group → Table
+table_made t groups = record { version = t.version; blocks = t.blocks; groups = groups }
+
+twice : (t : Table) (group : ℕ) (chunks next : Group) → with_group (with_group t group chunks) group next ≡ with_group t group next
+unfolding table_made
+twice t group chunks next = ap (table_made t) (set_twice t.groups group chunks next)
+
+made_is : (t : Table) (group number : ℕ) (new : Inode) → group < length t.groups → number / GROUP_NUMBERS ≡ group
+    → with_inode (prepare t group) number new ≡ with_group t group (set_inode (prepared t.blocks group (group_of t group)) (number % GROUP_NUMBERS) new)
+made_is t group number new lt in_it =
+    let ready : Group = prepared t.blocks group (group_of t group) in
+    let agino : ℕ = number % GROUP_NUMBERS in
+    with_is (prepare t group) number new
+    ∙ ap (λ (n : ℕ). with_group (prepare t group) n (set_inode (group_of (prepare t group) n) agino new)) in_it
+    ∙ ap (λ (cs : Group). with_group (prepare t group) group (set_inode cs agino new)) (own_group t group ready lt)
+    ∙ twice t group ready (set_inode ready agino new)
+
+pub made_told : (g : Geometry) (t : Table) (layouts others : Layouts) (image : List Sector) (group number : ℕ) (old new : Inode) (images : List Image) → CanSpell g t layouts image
+    → group < g.groups → number / GROUP_NUMBERS ≡ group → FollowInode layouts number old new others
+    → TellGroup g group layouts (group_of t group) others (set_inode (prepared t.blocks group (group_of t group)) (number % GROUP_NUMBERS) new) images
+    → overlaid (spelled g t layouts image) images ≡ spelled g (with_inode (prepare t group) number new) others image
+made_told g t layouts others image group number old new images can lt in_it follow tell =
+    let next : Group = set_inode (prepared t.blocks group (group_of t group)) (number % GROUP_NUMBERS) new in
+    let here : Relists layouts group (number % GROUP_NUMBERS) (is_unlinked_row old.row) (is_unlinked_row new.row) others =
+    subst (λ (n : ℕ). Relists layouts n (number % GROUP_NUMBERS) (is_unlinked_row old.row) (is_unlinked_row new.row) others) in_it follow in
+    told_in_group g t layouts others image group next images can lt
+    (other_layouts layouts others group (number % GROUP_NUMBERS) (is_unlinked_row old.row) (is_unlinked_row new.row) here) tell
+    ∙ ap (λ (u : Table). spelled g u others image) (sym (made_is t group number new (omega (arith, lt, can.groups)) in_it))

@@ -14,7 +14,7 @@ ghost use Rattle.life_table.specs.declared.table.Table.{Table};
 ghost use Rattle.life_table.specs.declared.table.Inode.{Inode};
 ghost use Rattle.life_table.specs.declared.table.Chunk.{Chunk};
 ghost use Rattle.life_table.specs.Table.{Group, group_of, in_use, inode_in, inode_of, row_of, set_inode, start_of, with_group, with_inode};
-ghost use Rattle.life_table.specs.Space.{times, insert_chunk, new_chunk};
+ghost use Rattle.life_table.specs.Space.{times, insert_chunk, new_chunk, prepared};
 ghost use Rattle.life_table.specs.WellFormed.{IsTable};
 ghost use Rattle.sound_image.specs.Places.{header_place};
 ghost use Rattle.sound_image.specs.Spelling.{Layouts, AreLayouts, CanSpell, head_of, is_unlinked_row, layout_of, list_of, next_in, spelled};
@@ -130,4 +130,11 @@ pub fn spellings_follow_the_table()
         → TellGroup g (number / GROUP_NUMBERS) layouts (group_of t (number / GROUP_NUMBERS)) others (set_inode (group_of t (number / GROUP_NUMBERS)) (number % GROUP_NUMBERS) new) images
         → overlaid (spelled g t layouts image) images ≡ spelled g (with_inode t number new) others image }
     ensures prepared { (t : Table) (layouts : Layouts) (group : ℕ) → AreLayouts t layouts → group < length t.groups → AreLayouts (prepare t group) layouts }
+    ensures made { (g : Geometry) (t : Table) (layouts others : Layouts) (image : List Sector) (group number : ℕ) (old new : Inode) → CanSpell g t layouts image → group < g.groups
+        → inode_of (prepare t group) number ≡ Some old → IsTable (with_inode (prepare t group) number new) → FollowInode layouts number old new others
+        → CanSpell g (with_inode (prepare t group) number new) others image }
+    ensures made_told { (g : Geometry) (t : Table) (layouts others : Layouts) (image : List Sector) (group number : ℕ) (old new : Inode) (images : List Image) → CanSpell g t layouts image
+        → group < g.groups → number / GROUP_NUMBERS ≡ group → FollowInode layouts number old new others
+        → TellGroup g group layouts (group_of t group) others (set_inode (prepared t.blocks group (group_of t group)) (number % GROUP_NUMBERS) new) images
+        → overlaid (spelled g t layouts image) images ≡ spelled g (with_inode (prepare t group) number new) others image }
 {}

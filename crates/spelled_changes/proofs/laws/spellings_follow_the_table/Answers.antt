@@ -1,4 +1,4 @@
-use Rattle.spelled_changes.proofs.Tables.{row_inode, inode_follows, inode_told}
+use Rattle.spelled_changes.proofs.Tables.{row_inode, inode_follows, inode_told, inode_made, made_told}
 use Rattle.spelled_changes.proofs.Prepared.{layouts_prepared}
 use Rattle.spelled_changes.proofs.laws.spellings_follow_the_table.Goals as goal
 
@@ -13,3 +13,9 @@ returns-clause-told c = inode_told
 
 pub returns-clause-prepared : goal.returns-clause-prepared
 returns-clause-prepared c = layouts_prepared
+
+pub returns-clause-made : goal.returns-clause-made
+returns-clause-made c = inode_made
+
+pub returns-clause-made_told : goal.returns-clause-made_told
+returns-clause-made_told c = made_told
