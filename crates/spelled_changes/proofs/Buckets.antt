@@ -80,7 +80,7 @@ times-cons b x xs = refl
 pub times-here : (b x : ℕ) (xs : List ℕ) → x ≡ b → times b (x ∷ xs) ≡ 1 + times b xs
 times-here b x xs e = times-cons b x xs ∙ ap (λ (n : ℕ). n + times b xs) (cond-true (eqb b x) 1 0 (eq-eqb b x (sym e)))
 
-times-tail : (b x : ℕ) (xs : List ℕ) → times b xs ≤ times b (x ∷ xs)
+pub times-tail : (b x : ℕ) (xs : List ℕ) → times b xs ≤ times b (x ∷ xs)
 times-tail b x xs = omega (arith, times-cons b x xs)
 
 head_times : (members : List ℕ) (agino : ℕ) → agino ≢ NO_INODE → head_of members ≡ agino → 1 ≤ times agino members

@@ -9,3 +9,4 @@ pub mod Follow
 pub mod OneList
 pub mod Tables
 pub mod Prepared
+pub mod Created

@@ -16,7 +16,7 @@ use Rattle.spelled_changes.proofs.Inodes.{used_first}
 use Rattle.spelled_changes.proofs.Follow.{kept_before, layouts_chunk, replaced}
 
 -- the block of a new chunk is free
-find-passes : (p : ℕ → Bool) (xs : List ℕ) (x : ℕ) → find p xs ≡ Some x → p x ≡ true
+pub find-passes : (p : ℕ → Bool) (xs : List ℕ) (x : ℕ) → find p xs ≡ Some x → p x ≡ true
 find-passes p [] x at = absurd (none-some x at)
 find-passes p (y ∷ xs) x at =
     elim (p y) as (λ c. p y ≡ c → cond c (Some y) (find p xs) ≡ Some x → p x ≡ true) [
@@ -38,7 +38,7 @@ begins_free blocks chunks block e =
     let inner = and_parts (is_free_block blocks chunks block) (list_all (is_free_block blocks chunks) (range_with_len (block + 1) 7)) outer.1 in
     free_is blocks chunks block inner.0
 
-place_free : (blocks : ℕ) (chunks : Group) (block : ℕ) → chunk_place blocks chunks ≡ Some block → times block (used chunks) ≡ 0
+pub place_free : (blocks : ℕ) (chunks : Group) (block : ℕ) → chunk_place blocks chunks ≡ Some block → times block (used chunks) ≡ 0
 unfolding chunk_place
 place_free blocks chunks block e =
     elim (ltb (length chunks) MAX_CHUNKS) as (λ c. cond c (find (begins_run blocks chunks) (range_with_len 0 blocks)) None ≡ Some block → times block (used chunks) ≡ 0) [

@@ -1,7 +1,8 @@
 -- How the layouts of a table change, and what a change of an inode may touch beside its sector.
-use Rattle.std.specs.Prelude.{◌≡◌, ◌≢◌, ◌+◌, ◌/◌, ◌%◌, ◌<◌, ◌≤◌, ℕ, Bool, true, false, List, ◌∷◌, slice_set}
+use Rattle.std.specs.Prelude.{◌≡◌, ◌≢◌, ◌+◌, ◌/◌, ◌%◌, ◌<◌, ◌≤◌, ℕ, Bool, true, false, List, ◌∷◌, None, slice_set}
 use Rattle.life_limits.specs.declared.TheConstants.{BLOCK_SECTORS, BUCKETS, CHUNK_INODES, GROUP_NUMBERS}
 use Rattle.agi_buckets.specs.Buckets.{put_first, take_out, without}
+use Rattle.life_table.specs.declared.key.Key.{Key}
 use Rattle.life_table.specs.declared.table.Inode.{Inode}
 use Rattle.life_table.specs.Space.{times, row_blocks}
 use Rattle.sound_image.specs.Places.{bitmap_place, bitmap_sectors}
@@ -56,3 +57,7 @@ Relists layouts group agino _ _ others = others ≡ layouts
 -- the same for another inode at a number of the image
 abbrev pub FollowInode : Layouts → ℕ → Inode → Inode → Layouts → Type 0
 FollowInode layouts number old new others = Relists layouts (number / GROUP_NUMBERS) (number % GROUP_NUMBERS) (is_unlinked_row old.row) (is_unlinked_row new.row) others
+
+-- the inode of a number that no row has, whose next life is that of a key
+abbrev pub unused_inode : Key → Inode
+unused_inode key = record { generation = key.generation; row = None }

@@ -9,7 +9,7 @@ ghost use Rattle.log_image.specs.Overlay.{overlaid};
 ghost use Rattle.log_record.specs.declared.image.Image.{Image};
 ghost use Rattle.life_table.specs.declared.key.Key.{Key};
 ghost use Rattle.life_table.specs.declared.types.Row.{Row};
-ghost use Rattle.life_table.specs.Legal.{prepare};
+ghost use Rattle.life_table.specs.Legal.{IsNextKey, prepare};
 ghost use Rattle.life_table.specs.declared.table.Table.{Table};
 ghost use Rattle.life_table.specs.declared.table.Inode.{Inode};
 ghost use Rattle.life_table.specs.declared.table.Chunk.{Chunk};
@@ -19,7 +19,7 @@ ghost use Rattle.life_table.specs.WellFormed.{IsTable};
 ghost use Rattle.sound_image.specs.Places.{header_place};
 ghost use Rattle.sound_image.specs.Spelling.{Layouts, AreLayouts, CanSpell, head_of, is_unlinked_row, layout_of, list_of, next_in, spelled};
 ghost use Rattle.spelled_changes.specs.Tell.{AreImagesOf, ChangesOnly, Stays, Tell, TellGroup};
-ghost use Rattle.spelled_changes.specs.Changes.{FollowInode, HaveSameBlocks, IsOfBitmap, IsOfChunk, IsOfPage, PutsFirst, TakesOut, put_in, taken_from};
+ghost use Rattle.spelled_changes.specs.Changes.{FollowInode, HaveSameBlocks, IsOfBitmap, IsOfChunk, IsOfPage, PutsFirst, TakesOut, put_in, taken_from, unused_inode};
 
 /// A law: images that tell a change, put over what spells the table before it, give what spells the table after it. Where one group alone has changed,
 /// images that tell how that group changes are such. The images of a change, those of the sectors that it changes alone, are one list.
@@ -137,4 +137,10 @@ pub fn spellings_follow_the_table()
         → group < g.groups → number / GROUP_NUMBERS ≡ group → FollowInode layouts number old new others
         → TellGroup g group layouts (group_of t group) others (set_inode (prepared t.blocks group (group_of t group)) (number % GROUP_NUMBERS) new) images
         → overlaid (spelled g t layouts image) images ≡ spelled g (with_inode (prepare t group) number new) others image }
+{}
+
+/// A law: the key that a create gives is in its group, and the inode of its number, once the group was prepared, is in no use and has that life next.
+pub fn created_keys_are_free()
+    ensures group { (t : Table) (group : ℕ) (key : Key) → IsTable t → IsNextKey t group key → key.number / GROUP_NUMBERS ≡ group }
+    ensures inode { (t : Table) (group : ℕ) (key : Key) → IsTable t → IsNextKey t group key → inode_of (prepare t group) key.number ≡ Some (unused_inode key) }
 {}
