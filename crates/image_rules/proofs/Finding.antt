@@ -13,7 +13,7 @@ pub IsFound-wider : (g : Geometry) (image : List Sector) (group n m : ℕ) (foun
     → IsFound g image group n found → IsFound g image group m found
 IsFound-wider g image group n m found le none was = record {
   space = Gathered-wider g image group n m found.map found.fork found.shared le none was.space;
-  links = Noted-wider g image group n m found.links.orphans.entries found.links.pointing none was.links;
+  links = Noted-wider g image group n m found.links.orphans.entries found.links.pointing le none was.links;
 }
 
 pub reached : (g : Geometry) (image : List Sector) (group bound agino : ℕ) (bytes : List ℕ) (free : Bool) (found : Found) → IsNext g image group bound agino bytes free

@@ -14,3 +14,4 @@ pub mod Noting
 pub mod Strolls
 pub mod Finding
 pub mod Joining
+pub mod Tallies

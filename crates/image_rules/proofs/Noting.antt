@@ -1,5 +1,5 @@
 -- The next pointers of the inodes below a number, and those of the next one.
-use Rattle.std.proofs.Common.{◌≡◌, ◌≢◌, ◌<◌, ◌≤◌, ◌+◌, ℕ, true, false, List, Option, None, Some, IsSomeAnd, cond, inl, inr, sym, subst, ◌∙◌, arith, unwrap_or}
+use Rattle.std.proofs.Common.{◌≡◌, ◌≢◌, ◌⊎◌, ◌<◌, ◌≤◌, ◌+◌, ℕ, true, false, List, Option, None, Some, IsSomeAnd, cond, inl, inr, refl, sym, subst, ◌∙◌, arith, unwrap_or}
 use Rattle.std.proofs.lemmas.Bool.{cases_eq, cases_lt, eq-eqb, ne_eqb, cond-true, cond-false}
 use Rattle.std.proofs.lemmas.Option.{same_Some}
 use Rattle.std.specs.BTreeMap.{is_at}
@@ -54,6 +54,10 @@ orphans_more g image group n next old new row sets found zero points ne was = re
     | inl e ↦ absurd (none_some next (sym absent ∙ set_here old new n agino (Some next) sets e))
     | inr other ↦ was.none agino (omega arith) (sym (set_other old new n agino (Some next) sets other) ∙ absent)
   ];
+  low = λ agino other at. elim (cases_eq n agino) [
+    | inl e ↦ omega arith
+    | inr ne ↦ let lt = was.low agino other (sym (set_other old new n agino (Some next) sets ne) ∙ at) in omega arith
+  ];
 }
 
 orphans_same : (g : Geometry) (image : List Sector) (group n : ℕ) (nexts : List (ℕ × ℕ)) → (IsOrphan g image group n → ⊥) → AreOrphans g image group n nexts → AreOrphans g image group (n + 1) nexts
@@ -63,6 +67,7 @@ orphans_same g image group n nexts not was = record {
     | inl l ↦ was.none agino l absent orphan
     | inr ge ↦ let e : agino ≡ n = omega arith in not (subst (IsOrphan g image group) e orphan)
   ];
+  low = λ agino next at. let lt = was.low agino next at in omega arith;
 }
 
 pointing_more : (g : Geometry) (image : List Sector) (group n : ℕ) (pointing : Option ℕ) → EndsThere g image group n → PointingBelow g image group n pointing → PointingBelow g image group (n + 1) pointing
@@ -114,15 +119,16 @@ pointing_wider g image group n m None none below = λ agino lt row e ne. elim (c
 pointing_wider g image group n m (Some x) none first = first
 
 -- no inode stands between
-pub Noted-wider : (g : Geometry) (image : List Sector) (group n m : ℕ) (nexts : List (ℕ × ℕ)) (pointing : Option ℕ) → ((other : ℕ) → n ≤ other → other < m → inode_at g image group other ≡ None)
+pub Noted-wider : (g : Geometry) (image : List Sector) (group n m : ℕ) (nexts : List (ℕ × ℕ)) (pointing : Option ℕ) → n ≤ m → ((other : ℕ) → n ≤ other → other < m → inode_at g image group other ≡ None)
     → Noted g image group n nexts pointing → Noted g image group m nexts pointing
-Noted-wider g image group n m nexts pointing none was = record {
+Noted-wider g image group n m nexts pointing le none was = record {
   orphans = record {
     held = was.orphans.held;
     none = λ agino lt absent orphan. elim (cases_lt agino n) [
       | inl low ↦ was.orphans.none agino low absent orphan
       | inr ge ↦ free_no_orphan g image group agino (row_none g image group agino (none agino ge lt)) orphan
     ];
+    low = λ agino next at. let lt = was.orphans.low agino next at in omega arith;
   };
   first = pointing_wider g image group n m pointing none was.first;
 }
@@ -143,3 +149,12 @@ all_end g image group nexts all agino row e ne =
       | inl lt ↦ all.noted.first agino lt row e ne
       | inr ge ↦ let no = row_none g image group agino (all.none agino ge) in cc (no, e)
     ]
+
+-- the next inode is not kept yet
+pub absent_here : (g : Geometry) (image : List Sector) (group n : ℕ) (nexts : List (ℕ × ℕ)) (pointing : Option ℕ) → Noted g image group n nexts pointing → next_of nexts n ≡ None
+absent_here g image group n nexts pointing was =
+    elim (none_or_some (next_of nexts n)) [ inl e ↦ e | inr found ↦ let lt = was.orphans.low n found.0 found.1 in absurd (omega arith) ]
+  where
+    none_or_some : (o : Option ℕ) → (o ≡ None) ⊎ ((x : ℕ) × o ≡ Some x)
+    none_or_some None = inl refl
+    none_or_some (Some x) = inr (x, refl)

@@ -3,3 +3,4 @@ pub mod Faults
 pub mod Taking
 pub mod Gathered
 pub mod Listing
+pub mod Counted

@@ -31,6 +31,7 @@ pub record IsKept (g : Geometry) (image : List Sector) (group agino next : ℕ) 
 pub record AreOrphans (g : Geometry) (image : List Sector) (group bound : ℕ) (nexts : List (ℕ × ℕ)) : Type 0 where
   pub held : (agino next : ℕ) → next_of nexts agino ≡ Some next → IsKept g image group agino next
   pub none : (agino : ℕ) → agino < bound → next_of nexts agino ≡ None → ¬ IsOrphan g image group agino
+  pub low : (agino next : ℕ) → next_of nexts agino ≡ Some next → agino < bound
 
 -- an inode with links has no next pointer
 abbrev pub EndsThere : Geometry → List Sector → ℕ → ℕ → Type 0

@@ -14,6 +14,7 @@ ghost use Rattle.sound_image.specs.Reading.{core_of, inode_at, records_of};
 ghost use Rattle.sound_image.specs.Rules.{IsCoreRight, IsInData};
 ghost use Rattle.image_rules.specs.Faults.{IsCaused};
 ghost use Rattle.image_rules.specs.Gathered.{Gathered, IsNext, IsNextChunk, CoreFault, row_unless};
+ghost use Rattle.image_rules.specs.Counted.{chunk_orphans, one_if_orphan};
 ghost use Rattle.image_rules.specs.Listing.{IsFound};
 ghost use Rattle.image_rules.specs.declared.fault.CheckFault.TheVariants.{NoMemory};
 ghost use Rattle.image_rules.specs.Shown.{Shows};
@@ -50,8 +51,9 @@ impl Found {
     /// Before the first inode of a group of so many blocks with these chunks.
     pub(crate) fn new(alloc: Global, blocks: u32, chunks: &[ChunkRec]) -> Found
         requires { blocks ≤ MAX_BLOCKS }
-        ensures { (g : Geometry) (image : List Sector) (group : ℕ) → g.blocks ≡ blocks → records_of g image group ≡ chunks.now
+        ensures found { (g : Geometry) (image : List Sector) (group : ℕ) → g.blocks ≡ blocks → records_of g image group ≡ chunks.now
             → IsFound g image group 0 result }
+        ensures none { length result.links.orphans.entries ≡ 0 }
     {
         let mut map = data_blocks(blocks);
         occupy_chunks(&mut map, chunks);
@@ -125,6 +127,8 @@ impl Found {
         ensures taken { (image : List Sector) (bound : ℕ) → IsNext g.now image group bound agino sector.now.bytes free
             → IsFound g.now image group bound self.old
             → OnOk result (IsFound g.now image group (agino + 1) self.new) }
+        ensures counted { (image : List Sector) (bound : ℕ) → IsNext g.now image group bound agino sector.now.bytes free → IsFound g.now image group bound self.old
+            → OnOk result (length self.new.links.orphans.entries ≡ length self.old.links.orphans.entries + one_if_orphan (row_unless g.now image group agino free)) }
         ensures wrong { (image : List Sector) (bound : ℕ) → IsNext g.now image group bound agino sector.now.bytes free
             → IsFound g.now image group bound self.old → IfErr result (CoreFault g.now image group) }
         ensures no_read { (before now : ℕ) → IfErr result (IsCaused before now) }
@@ -159,6 +163,9 @@ impl Found {
         ensures taken { (image : List Sector) (bound : ℕ) → IsNextChunk g.now image group bound chunk.now → Shows image (sector_in g.now group chunk.now.start) sectors.now
             → IsFound g.now image group bound self.old
             → OnOk result (IsFound g.now image group (chunk.now.start + CHUNK_INODES) self.new) }
+        ensures counted { (image : List Sector) (bound : ℕ) → IsNextChunk g.now image group bound chunk.now → Shows image (sector_in g.now group chunk.now.start) sectors.now
+            → IsFound g.now image group bound self.old
+            → OnOk result (length self.new.links.orphans.entries ≡ length self.old.links.orphans.entries + chunk_orphans g.now image group chunk.now) }
         ensures wrong { (image : List Sector) (bound : ℕ) → IsNextChunk g.now image group bound chunk.now → Shows image (sector_in g.now group chunk.now.start) sectors.now
             → IsFound g.now image group bound self.old → IfErr result (CoreFault g.now image group) }
         ensures no_read { (before now : ℕ) → IfErr result (IsCaused before now) }

@@ -13,6 +13,7 @@ mod lists;
 mod pages;
 mod reading;
 mod space;
+mod tables;
 mod taken;
 
 pub use all_groups::check_groups;
@@ -21,6 +22,7 @@ pub use headers::right_header;
 pub use inodes::{right_blocks, right_core};
 pub use pages::{has_counts, right_leaf};
 pub use space::check_group;
+pub use tables::Tables;
 
 #[cfg(test)]
 mod tests;

@@ -9,6 +9,7 @@ use Rattle.image_rules.specs.Faults.{IsCaused}
 use Rattle.image_rules.specs.Gathered.{CoreFault, IsNextChunk}
 use Rattle.image_rules.specs.Listing.{IsFound}
 use Rattle.image_rules.specs.Shown.{Shows}
+use Rattle.image_rules.proofs.Tallies.{chunks_none, chunks_more, group_sum}
 use Rattle.image_rules.proofs.Outcomes.{passed_up}
 use Rattle.image_rules.proofs.Walking.{blank, bound_at, bound_none, bound_more, next_chunk, none_after}
 use Rattle.image_rules.proofs.groups.check_inodes.Goals as goal
@@ -20,7 +21,8 @@ loop-chunk-init g c =
       read = g.met.V.View.no_read a.view.now;
       gathered = λ told same.
           subst (λ (n : ℕ). IsFound a.g.now (g.V.View.image a.view.now) a.group n c.new-found.result) (sym (bound_none c.chunks-chunks.result.now))
-          (c.new-found.ensures a.g.now (g.V.View.image a.view.now) a.group (search rules) (same ∙ sym c.chunks-chunks.ensures.all));
+          (c.new-found.ensures.found a.g.now (g.V.View.image a.view.now) a.group (search rules) (same ∙ sym c.chunks-chunks.ensures.all));
+      counted = λ told same. c.new-found.ensures.none ∙ sym (chunks_none a.g.now (g.V.View.image a.view.now) a.group c.chunks-chunks.result.now);
     }
 
 pub read_sectors-requires-clause-within : goal.read_sectors-requires-clause-within
@@ -78,6 +80,22 @@ loop-chunk-preserved g c = record {
       subst (λ (s : ℕ). Shows image s c.deref.result.now) c.sector_at-at.ensures.place (subst (Shows image c.sector_at-at.result) (sym c.deref.ensures.value) read) in
       subst (λ (n : ℕ). IsFound a.g.now image a.group n c.add_chunk.new.self) (sym (bound_more chunks i))
       (c.in_ok-add_chunk.ensures.taken image (bound_at chunks i) next shows (c.loop-chunk.invariant.gathered told same));
+  counted = λ told same.
+      let a = c.args in
+      let image : List Sector = g.V.View.image a.view.now in
+      let chunks : List ChunkRec = c.chunks-chunks.result.now in
+      let i : ℕ = c.loop-chunk.chunk-index in
+      let leaf : IsLeaf chunks = subst IsLeaf (sym c.chunks-chunks.ensures.all) c.chunks-chunks.ensures.leaf in
+      let next : IsNextChunk a.g.now image a.group (bound_at chunks i) (get_or chunks i blank) =
+      next_chunk a.g.now image a.group chunks i (same ∙ sym c.chunks-chunks.ensures.all) leaf
+      (λ k j chunk is at low. c.chunks_are_read.ensures.found a.g.now image a.group k j chunk is at low)
+      (λ other inode e. c.chunks_are_read.ensures.only a.g.now image a.group other inode e) c.loop-chunk-test.true in
+      let stays = g.met.V.View.image_stays a.view.now c.loop-chunk.view c.loop-chunk.invariant.read in
+      let read : Shows image c.sector_at-at.result c.in_ok-sectors.sectors.items = subst (λ (l : List Sector). Shows l c.sector_at-at.result c.in_ok-sectors.sectors.items) stays (c.in_ok-sectors.ensures.shown told) in
+      let shows : Shows image (sector_in a.g.now a.group (get_or chunks i blank).start) c.deref.result.now =
+      subst (λ (s : ℕ). Shows image s c.deref.result.now) c.sector_at-at.ensures.place (subst (Shows image c.sector_at-at.result) (sym c.deref.ensures.value) read) in
+      let here = c.in_ok-add_chunk.ensures.counted image (bound_at chunks i) next shows (c.loop-chunk.invariant.gathered told same) in
+      omega (arith, here, c.loop-chunk.invariant.counted told same, chunks_more a.g.now image a.group chunks i blank c.loop-chunk-test.true);
 }
 
 pub returns-clause-right : goal.returns-clause-right
@@ -93,3 +111,9 @@ returns-clause-right g c told same =
       record { bound = bound_at chunks c.loop-chunk.chunk-index; none = after; gathered = found.space },
       record { bound = bound_at chunks c.loop-chunk.chunk-index; none = after; noted = found.links },
     )
+
+pub returns-clause-counted : goal.returns-clause-counted
+returns-clause-counted g c told same =
+    let a = c.args in
+    c.loop-chunk.invariant.counted told same
+    ∙ group_sum a.g.now (g.V.View.image a.view.now) a.group c.chunks-chunks.result.now c.loop-chunk.chunk-index (same ∙ sym c.chunks-chunks.ensures.all) (omega arith)

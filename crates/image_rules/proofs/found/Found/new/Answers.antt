@@ -2,8 +2,8 @@ use Rattle.std.proofs.Common.{sym, ◌∙◌, arith}
 use Rattle.image_rules.proofs.Walking.{in_no_chunk, misses_all}
 use Rattle.image_rules.proofs.found.Found.new.Goals as goal
 
-pub returns : goal.returns
-returns c g image group size same =
+pub returns-clause-found : goal.returns-clause-found
+returns-clause-found c g image group size same =
     let from = c.data_blocks-map.ensures in
     let o = c.occupy_chunks.ensures in
     record {
@@ -20,5 +20,5 @@ returns c g image group size same =
           kept = λ b low high chunks below. o.kept b (from.kept b low (omega (arith, high, size))) (misses_all g image group b c.args.chunks.now same chunks);
         };
       };
-      links = c.new.ensures g image group;
+      links = c.new.ensures.noted g image group;
     }
