@@ -15,3 +15,4 @@ pub mod Strolls
 pub mod Finding
 pub mod Joining
 pub mod Tallies
+pub mod Totals

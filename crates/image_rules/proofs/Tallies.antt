@@ -43,8 +43,12 @@ chunks_sum : (g : Geometry) (image : List Sector) (group : ℕ) (rs : List Chunk
     → sum_by (λ (chunk : Chunk). count_by (λ (inode : Inode). is_unlinked_row inode.row) chunk.inodes) (map (chunk_read g image group) rs) ≡ sum_by (chunk_orphans g image group) rs
 chunks_sum g image group [] = refl
 chunks_sum g image group (r ∷ rs) =
-    omega (arith, chunks_sum g image group rs, sum_by-cons (chunk_orphans g image group) r rs,
-    sum_by-cons (λ (chunk : Chunk). count_by (λ (inode : Inode). is_unlinked_row inode.row) chunk.inodes) (chunk_read g image group r) (map (chunk_read g image group) rs))
+    omega (
+      arith,
+      chunks_sum g image group rs,
+      sum_by-cons (chunk_orphans g image group) r rs,
+      sum_by-cons (λ (chunk : Chunk). count_by (λ (inode : Inode). is_unlinked_row inode.row) chunk.inodes) (chunk_read g image group r) (map (chunk_read g image group) rs),
+    )
 
 pub group_sum : (g : Geometry) (image : List Sector) (group : ℕ) (rs : List ChunkRec) (n : ℕ) → records_of g image group ≡ rs → n ≡ length rs
     → sum_by (chunk_orphans g image group) (take n rs) ≡ orphans_in (group_read g image group)

@@ -112,7 +112,7 @@ fn group_with_orphan(alloc: Global) -> Result<Vec<Sector>, AllocError>
     Ok(sectors)
 }
 
-fn judged(alloc: Global, sectors: Vec<Sector>) -> Result<(), CheckFault> {
+fn judged(alloc: Global, sectors: Vec<Sector>) -> Result<Tables, CheckFault> {
     let Ok(mut disk) = MemoryDisk::with(alloc, sectors) else {
         return Err(CheckFault::NoMemory);
     };
@@ -125,7 +125,7 @@ fn judged(alloc: Global, sectors: Vec<Sector>) -> Result<(), CheckFault> {
 #[test]
 fn empty_group_is_right_and_its_damages_are_named(rt: HostRuntime) -> Result<(), Fail> {
     let alloc = rt.alloc();
-    assert_eq!(rt; judged(alloc, empty_group(alloc)?), Ok(()));
+    assert_eq!(rt; judged(alloc, empty_group(alloc)?), Ok(Tables::NONE));
     for (at, rule, sector) in [(2, 5, 2), (20, 6, 16), (8, 10, 8), (11, 10, 11)] {
         let mut sectors = empty_group(alloc)?;
         sectors[at].bytes[5] ^= 1;
@@ -141,7 +141,12 @@ fn empty_group_is_right_and_its_damages_are_named(rt: HostRuntime) -> Result<(),
 #[test]
 fn orphan_is_in_its_list_and_damages_of_lists_are_named(rt: HostRuntime) -> Result<(), Fail> {
     let alloc = rt.alloc();
-    assert_eq!(rt; judged(alloc, group_with_orphan(alloc)?), Ok(()));
+    let counted = Tables {
+        chunks: 1,
+        inodes: 2,
+        orphans: 1,
+    };
+    assert_eq!(rt; judged(alloc, group_with_orphan(alloc)?), Ok(counted));
 
     // no bucket has the orphan
     let mut sectors = group_with_orphan(alloc)?;

@@ -1,4 +1,5 @@
-use Rattle.std.proofs.Common.{IsTrue}
+use Rattle.std.proofs.Common.{◌≡◌, None, IsTrue}
+use Rattle.image_rules.specs.Counted.{AreCounted}
 use Rattle.image_rules.specs.Faults.{AreJudged}
 use Rattle.image_rules.proofs.all_groups.check_groups.Given as goal
 
@@ -6,4 +7,5 @@ abbrev pub invariant-loop-group : goal.invariant-loop-group
 invariant-loop-group g l = record {
   read : g.V.View.only_read l.fn.view l.view;
   judged : IsTrue g.V.View.told → AreJudged l.g (g.V.View.image l.fn.view) l.group l.first;
+  counted : IsTrue g.V.View.told → l.first ≡ None → AreCounted l.g (g.V.View.image l.fn.view) l.group l.tables;
 }

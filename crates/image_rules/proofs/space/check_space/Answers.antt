@@ -1,6 +1,9 @@
-use Rattle.std.proofs.Common.{◌≡◌, ℕ, List, Option, None, ap, sym, subst, ◌∙◌}
+use Rattle.std.proofs.Common.{length, arith, ◌≡◌, ℕ, List, Option, None, ap, sym, subst, ◌∙◌}
 use Rattle.life_bytes.specs.declared.sector.Sector.{Sector}
 use Rattle.inobt_leaf.specs.Chunks.{IsLeaf}
+use Rattle.ag_header.specs.declared.agi.Agi.{Agi}
+use Rattle.inobt_leaf.specs.declared.chunk.ChunkRec.{ChunkRec}
+use Rattle.sound_image.specs.Counts.{orphans_in}
 use Rattle.sound_image.specs.Damage.{Rule, HoldsIn, tree, bitmap}
 use Rattle.sound_image.specs.Reading.{header_of, records_of, group_read}
 use Rattle.sound_image.specs.Rules.{free_set}
@@ -129,4 +132,17 @@ returns-clause-right g c told =
       up_to_bitmap (λ (rule : Rule). HoldsIn k image rule a.group) header.0 leaf.0 cores forks alone bits,
       header.1,
       subst (λ (l : List Sector). AllNoted k l a.group f.links.orphans.entries f.links.pointing) same2 (c.in_ok-found.ensures.right told records2).1,
+      record {
+        chunks = c.count-tables.ensures.chunks ∙ ap (λ (cs : List ChunkRec). length cs) (sym leaf.1) ∙ sym (c.groups_are_counted.ensures.chunks k image a.group);
+        inodes = omega (
+          arith,
+          c.count-tables.ensures.inodes,
+          ap (λ (agi : Agi). agi.count) header.1,
+          ap (λ (agi : Agi). agi.free) header.1,
+          leaf.0.1.count,
+          leaf.0.1.free,
+          c.groups_are_counted.ensures.inodes k image a.group leaf.0.0.leaf,
+        );
+        orphans = c.count-tables.ensures.orphans ∙ c.in_ok-found.ensures.counted told records2 ∙ ap (λ (l : List Sector). orphans_in (group_read k l a.group)) same2;
+      },
     )
