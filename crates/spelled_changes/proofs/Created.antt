@@ -295,3 +295,7 @@ created_inode t group key table next =
     ap (λ (n : ℕ). inode_in (group_of (prepare t group) n) (key.number % GROUP_NUMBERS)) is.group_is
     ∙ ap (λ (cs : Group). inode_in cs (key.number % GROUP_NUMBERS)) (own_group t group (prepared t.blocks group (group_of t group)) next.0)
     ∙ is.at
+
+pub created_at : (t : Table) (group : ℕ) (key : Key) → IsTable t → IsNextKey t group key
+    → inode_in (prepared t.blocks group (group_of t group)) (key.number % GROUP_NUMBERS) ≡ Some (unused_inode key)
+created_at t group key table next = (of_table t group key table next).at

@@ -10,3 +10,4 @@ pub mod OneList
 pub mod Tables
 pub mod Prepared
 pub mod Created
+pub mod Touched

@@ -1,10 +1,12 @@
 -- How the layouts of a table change, and what a change of an inode may touch beside its sector.
-use Rattle.std.specs.Prelude.{◌≡◌, ◌≢◌, ◌+◌, ◌/◌, ◌%◌, ◌<◌, ◌≤◌, ℕ, Bool, true, false, List, ◌∷◌, None, slice_set}
+use Rattle.std.specs.Prelude.{◌≡◌, ◌≢◌, ◌⊎◌, ◌+◌, ◌/◌, ◌%◌, ◌<◌, ◌≤◌, ℕ, Bool, true, false, List, ◌∷◌, None, Some, is_some, slice_set}
 use Rattle.life_limits.specs.declared.TheConstants.{BLOCK_SECTORS, BUCKETS, CHUNK_INODES, GROUP_NUMBERS}
 use Rattle.agi_buckets.specs.Buckets.{put_first, take_out, without}
 use Rattle.life_table.specs.declared.key.Key.{Key}
 use Rattle.life_table.specs.declared.table.Inode.{Inode}
-use Rattle.life_table.specs.Space.{times, row_blocks}
+use Rattle.life_table.specs.Space.{times, row_blocks, chunk_place, lowest_key, new_chunk}
+use Rattle.life_table.specs.declared.table.Table.{Table}
+use Rattle.life_table.specs.Table.{group_of}
 use Rattle.sound_image.specs.Places.{bitmap_place, bitmap_sectors}
 use Rattle.sound_image.specs.Spelling.{Layouts, layout_of, page_of, page_place, list_of, is_unlinked_row}
 
@@ -61,3 +63,9 @@ FollowInode layouts number old new others = Relists layouts (number / GROUP_NUMB
 -- the inode of a number that no row has, whose next life is that of a key
 abbrev pub unused_inode : Key → Inode
 unused_inode key = record { generation = key.generation; row = None }
+
+-- A create leaves this place of its group out: where a number was free it adds no chunk, and else the place is not of the bitmap and of the chunk that it adds.
+abbrev pub IsOfNoNewChunk : Table → ℕ → ℕ → Type 0
+IsOfNoNewChunk t group place =
+    (is_some (lowest_key group (group_of t group)) ≡ true)
+    ⊎ ((¬ IsOfBitmap place) × ((block : ℕ) → chunk_place t.blocks (group_of t group) ≡ Some block → ¬ IsOfChunk (new_chunk block).start place))

@@ -1,6 +1,6 @@
 // Laws of the definitions. Each is the contract of a function that does nothing.
 
-ghost use Rattle.std.specs.Prelude.{◌≡◌, ◌≢◌, ◌⊎◌, ◌≤◌, ◌<◌, ◌*◌, ◌/◌, ◌%◌, ℕ, true, false, List, None, Some, is_none, length};
+ghost use Rattle.std.specs.Prelude.{◌≡◌, ◌≢◌, ◌⊎◌, ◌≤◌, ◌<◌, ◌*◌, ◌/◌, ◌%◌, ℕ, true, false, List, [], None, Some, is_none, length};
 ghost use Rattle.life_limits.specs.declared.TheConstants.{BUCKETS, GROUP_NUMBERS, NO_INODE};
 ghost use Rattle.life_bytes.specs.declared.sector.Sector.{Sector};
 ghost use Rattle.geometry.specs.declared.shape.Geometry.{Geometry};
@@ -14,12 +14,12 @@ ghost use Rattle.life_table.specs.declared.table.Table.{Table};
 ghost use Rattle.life_table.specs.declared.table.Inode.{Inode};
 ghost use Rattle.life_table.specs.declared.table.Chunk.{Chunk};
 ghost use Rattle.life_table.specs.Table.{Group, group_of, in_use, inode_in, inode_of, row_of, set_inode, start_of, with_group, with_inode};
-ghost use Rattle.life_table.specs.Space.{times, insert_chunk, new_chunk, prepared};
+ghost use Rattle.life_table.specs.Space.{times, insert_chunk, new_chunk, prepared, row_blocks};
 ghost use Rattle.life_table.specs.WellFormed.{IsTable};
 ghost use Rattle.sound_image.specs.Places.{header_place};
 ghost use Rattle.sound_image.specs.Spelling.{Layouts, AreLayouts, CanSpell, head_of, is_unlinked_row, layout_of, list_of, next_in, spelled};
 ghost use Rattle.spelled_changes.specs.Tell.{AreImagesOf, ChangesOnly, Stays, Tell, TellGroup};
-ghost use Rattle.spelled_changes.specs.Changes.{FollowInode, HaveSameBlocks, IsOfBitmap, IsOfChunk, IsOfPage, PutsFirst, TakesOut, put_in, taken_from, unused_inode};
+ghost use Rattle.spelled_changes.specs.Changes.{FollowInode, HaveSameBlocks, IsOfBitmap, IsOfChunk, IsOfNoNewChunk, IsOfPage, PutsFirst, Relists, TakesOut, put_in, taken_from, unused_inode};
 
 /// A law: images that tell a change, put over what spells the table before it, give what spells the table after it. Where one group alone has changed,
 /// images that tell how that group changes are such. The images of a change, those of the sectors that it changes alone, are one list.
@@ -143,4 +143,12 @@ pub fn spellings_follow_the_table()
 pub fn created_keys_are_free()
     ensures group { (t : Table) (group : ℕ) (key : Key) → IsTable t → IsNextKey t group key → key.number / GROUP_NUMBERS ≡ group }
     ensures inode { (t : Table) (group : ℕ) (key : Key) → IsTable t → IsNextKey t group key → inode_of (prepare t group) key.number ≡ Some (unused_inode key) }
+{}
+
+/// A law: a create touches the header, the page and the sector of its inode, and where it adds a chunk also the bitmap and the sectors of the chunk.
+pub fn creates_touch_their_inode()
+    ensures { (g : Geometry) (t : Table) (layouts others : Layouts) (group : ℕ) (key : Key) (new : Inode) (place : ℕ) → IsTable t → IsNextKey t group key
+        → Relists layouts group (key.number % GROUP_NUMBERS) false (is_unlinked_row new.row) others → row_blocks new.row ≡ []
+        → place ≢ header_place → ¬ IsOfPage layouts group place → place ≢ key.number % GROUP_NUMBERS → IsOfNoNewChunk t group place
+        → Stays g group layouts (group_of t group) others (set_inode (prepared t.blocks group (group_of t group)) (key.number % GROUP_NUMBERS) new) place }
 {}
