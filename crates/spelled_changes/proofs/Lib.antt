@@ -11,3 +11,4 @@ pub mod Tables
 pub mod Prepared
 pub mod Created
 pub mod Touched
+pub mod Bitmaps

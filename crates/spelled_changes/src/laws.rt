@@ -1,7 +1,7 @@
 // Laws of the definitions. Each is the contract of a function that does nothing.
 
-ghost use Rattle.std.specs.Prelude.{◌≡◌, ◌≢◌, ◌⊎◌, ◌≤◌, ◌<◌, ◌*◌, ◌/◌, ◌%◌, ℕ, true, false, List, [], None, Some, is_none, length};
-ghost use Rattle.life_limits.specs.declared.TheConstants.{BUCKETS, GROUP_NUMBERS, NO_INODE};
+ghost use Rattle.std.specs.Prelude.{◌≡◌, ◌≢◌, ◌⊎◌, ◌+◌, ◌≤◌, ◌<◌, ◌*◌, ◌/◌, ◌%◌, ℕ, true, false, List, [], None, Some, is_none, length};
+ghost use Rattle.life_limits.specs.declared.TheConstants.{BUCKETS, GROUP_NUMBERS, NO_INODE, SECTOR_BYTES};
 ghost use Rattle.life_bytes.specs.declared.sector.Sector.{Sector};
 ghost use Rattle.geometry.specs.declared.shape.Geometry.{Geometry};
 ghost use Rattle.geometry.specs.Places.{group_sectors};
@@ -14,9 +14,9 @@ ghost use Rattle.life_table.specs.declared.table.Table.{Table};
 ghost use Rattle.life_table.specs.declared.table.Inode.{Inode};
 ghost use Rattle.life_table.specs.declared.table.Chunk.{Chunk};
 ghost use Rattle.life_table.specs.Table.{Group, group_of, in_use, inode_in, inode_of, row_of, set_inode, start_of, with_group, with_inode};
-ghost use Rattle.life_table.specs.Space.{times, insert_chunk, new_chunk, prepared, row_blocks};
+ghost use Rattle.life_table.specs.Space.{times, insert_chunk, is_free_block, new_chunk, prepared, row_blocks};
 ghost use Rattle.life_table.specs.WellFormed.{IsTable};
-ghost use Rattle.sound_image.specs.Places.{header_place};
+ghost use Rattle.sound_image.specs.Places.{bitmap_place, bitmap_sectors, header_place};
 ghost use Rattle.sound_image.specs.Spelling.{Layouts, AreLayouts, CanSpell, head_of, is_unlinked_row, layout_of, list_of, next_in, spelled};
 ghost use Rattle.spelled_changes.specs.Tell.{AreImagesOf, ChangesOnly, Stays, Tell, TellGroup};
 ghost use Rattle.spelled_changes.specs.Changes.{FollowInode, HaveSameBlocks, IsOfBitmap, IsOfChunk, IsOfNoNewChunk, IsOfPage, PutsFirst, Relists, TakesOut, put_in, taken_from, unused_inode};
@@ -151,4 +151,11 @@ pub fn creates_touch_their_inode()
         → Relists layouts group (key.number % GROUP_NUMBERS) false (is_unlinked_row new.row) others → row_blocks new.row ≡ []
         → place ≢ header_place → ¬ IsOfPage layouts group place → place ≢ key.number % GROUP_NUMBERS → IsOfNoNewChunk t group place
         → Stays g group layouts (group_of t group) others (set_inode (prepared t.blocks group (group_of t group)) (key.number % GROUP_NUMBERS) new) place }
+{}
+
+/// A law: a sector of the bitmap changes only where a block of its part comes to be free or ceases to be.
+pub fn bitmaps_touch_their_part()
+    ensures { (g : Geometry) (layouts others : Layouts) (group : ℕ) (chunks next : Group) (k : ℕ) → k < bitmap_sectors
+        → ((block : ℕ) → block / (8 * SECTOR_BYTES) ≡ k → is_free_block g.blocks next block ≡ is_free_block g.blocks chunks block)
+        → Stays g group layouts chunks others next (bitmap_place + k) }
 {}

@@ -4,7 +4,8 @@
 mod laws;
 
 pub use laws::{
-    buckets_touch_pointers, chunks_touch_themselves, created_keys_are_free,
-    creates_touch_their_inode, groups_change_alone, images_tell_changes, inodes_touch_themselves,
-    layouts_follow_the_table, rows_touch_their_bucket, spellings_follow_the_table,
+    bitmaps_touch_their_part, buckets_touch_pointers, chunks_touch_themselves,
+    created_keys_are_free, creates_touch_their_inode, groups_change_alone, images_tell_changes,
+    inodes_touch_themselves, layouts_follow_the_table, rows_touch_their_bucket,
+    spellings_follow_the_table,
 };
