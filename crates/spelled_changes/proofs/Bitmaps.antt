@@ -68,7 +68,7 @@ same_sector blocks chunks next k low same =
     ∙ same_byte blocks chunks next k (SECTOR_BYTES * k + i) (omega arith) same
     ∙ sym (get_or-map-range_with_len (byte_of b) 0 2048 (SECTOR_BYTES * k + i) (SECTOR_BYTES * k + i) d (omega arith) (omega arith)))
 
-at_bitmap : (g : Geometry) (layouts : Layouts) (group : ℕ) (chunks : Group) (k : ℕ) → k < 4 → metadata g layouts group chunks (8 + k) ≡ Some (part k (bitmap (free_set g.blocks chunks)))
+pub at_bitmap : (g : Geometry) (layouts : Layouts) (group : ℕ) (chunks : Group) (k : ℕ) → k < 4 → metadata g layouts group chunks (8 + k) ≡ Some (part k (bitmap (free_set g.blocks chunks)))
 at_bitmap g layouts group chunks k lt =
     let back : 8 + k - 8 ≡ k = omega arith in
     by_tests g layouts group chunks (8 + k)

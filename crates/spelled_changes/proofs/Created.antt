@@ -46,7 +46,7 @@ times_range b s (suc n) low high =
       | inr apart ↦ omega (arith, times_range b (s + 1) n (omega arith) (omega arith), times-tail b s (range_with_len (s + 1) n))
     ]
 
-last_block : (chunk : Chunk) → 1 ≤ times (chunk.start / BLOCK_SECTORS + 7) (chunk_blocks chunk)
+pub last_block : (chunk : Chunk) → 1 ≤ times (chunk.start / BLOCK_SECTORS + 7) (chunk_blocks chunk)
 unfolding chunk_blocks
 last_block chunk = times_range (chunk.start / BLOCK_SECTORS + 7) (chunk.start / BLOCK_SECTORS) 8 (omega arith) (omega arith)
 
@@ -101,7 +101,7 @@ Ascends-insert_chunk new (chunk ∷ chunks) absent ascends =
 
 -- ---- the group as a create finds it
 
-first_block : (chunk : Chunk) (block : ℕ) → chunk.start ≡ block * BLOCK_SECTORS → 1 ≤ times block (chunk_blocks chunk)
+pub first_block : (chunk : Chunk) (block : ℕ) → chunk.start ≡ block * BLOCK_SECTORS → 1 ≤ times block (chunk_blocks chunk)
 unfolding chunk_blocks
 first_block chunk block e = times_range block (chunk.start / BLOCK_SECTORS) 8 (omega (arith, e)) (omega (arith, e))
 

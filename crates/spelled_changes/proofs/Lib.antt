@@ -12,3 +12,4 @@ pub mod Prepared
 pub mod Created
 pub mod Touched
 pub mod Bitmaps
+pub mod Standing

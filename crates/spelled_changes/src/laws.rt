@@ -1,7 +1,7 @@
 // Laws of the definitions. Each is the contract of a function that does nothing.
 
 ghost use Rattle.std.specs.Prelude.{◌≡◌, ◌≢◌, ◌⊎◌, ◌+◌, ◌≤◌, ◌<◌, ◌*◌, ◌/◌, ◌%◌, ℕ, true, false, List, [], None, Some, is_none, length};
-ghost use Rattle.life_limits.specs.declared.TheConstants.{BUCKETS, GROUP_NUMBERS, NO_INODE, SECTOR_BYTES};
+ghost use Rattle.life_limits.specs.declared.TheConstants.{BLOCK_SECTORS, BUCKETS, FIRST_DATA_BLOCK, FIRST_PAGE_BLOCK, GROUP_NUMBERS, LAST_PAGE_BLOCK, NO_INODE, SECTOR_BYTES};
 ghost use Rattle.life_bytes.specs.declared.sector.Sector.{Sector};
 ghost use Rattle.geometry.specs.declared.shape.Geometry.{Geometry};
 ghost use Rattle.geometry.specs.Places.{group_sectors};
@@ -16,8 +16,11 @@ ghost use Rattle.life_table.specs.declared.table.Chunk.{Chunk};
 ghost use Rattle.life_table.specs.Table.{Group, group_of, in_use, inode_in, inode_of, row_of, set_inode, start_of, with_group, with_inode};
 ghost use Rattle.life_table.specs.Space.{times, insert_chunk, is_free_block, new_chunk, prepared, row_blocks};
 ghost use Rattle.life_table.specs.WellFormed.{IsTable};
-ghost use Rattle.sound_image.specs.Places.{bitmap_place, bitmap_sectors, header_place};
-ghost use Rattle.sound_image.specs.Spelling.{Layouts, AreLayouts, CanSpell, head_of, is_unlinked_row, layout_of, list_of, next_in, spelled};
+ghost use Rattle.sound_image.specs.Places.{bitmap_place, bitmap_sectors, header_place, part};
+ghost use Rattle.sound_image.specs.Spelling.{Layouts, AreLayouts, CanSpell, head_of, header_for, inode_sector, is_unlinked_row, layout_of, list_of, metadata, next_in, page_bytes, page_of, page_place, spelled};
+ghost use Rattle.sound_image.specs.Rules.{free_set};
+ghost use Rattle.ag_header.specs.Headers.{spelling as header_spelling};
+ghost use Rattle.free_map.specs.Bitmap.{bitmap};
 ghost use Rattle.spelled_changes.specs.Tell.{AreImagesOf, ChangesOnly, Stays, Tell, TellGroup};
 ghost use Rattle.spelled_changes.specs.Changes.{FollowInode, HaveSameBlocks, IsOfBitmap, IsOfChunk, IsOfNoNewChunk, IsOfPage, PutsFirst, Relists, TakesOut, put_in, taken_from, unused_inode};
 
@@ -158,4 +161,17 @@ pub fn bitmaps_touch_their_part()
     ensures { (g : Geometry) (layouts others : Layouts) (group : ℕ) (chunks next : Group) (k : ℕ) → k < bitmap_sectors
         → ((block : ℕ) → block / (8 * SECTOR_BYTES) ≡ k → is_free_block g.blocks next block ≡ is_free_block g.blocks chunks block)
         → Stays g group layouts chunks others next (bitmap_place + k) }
+{}
+
+/// A law: what the format says of each place of a group; and an inode of a table that an image can spell has a place behind all pages, in its group.
+pub fn places_have_their_metadata()
+    ensures header { (g : Geometry) (layouts : Layouts) (group : ℕ) (chunks : Group) → metadata g layouts group chunks header_place ≡ Some (header_spelling (header_for g group chunks layouts)) }
+    ensures bitmap { (g : Geometry) (layouts : Layouts) (group : ℕ) (chunks : Group) (k : ℕ) → k < bitmap_sectors
+        → metadata g layouts group chunks (bitmap_place + k) ≡ Some (part k (bitmap (free_set g.blocks chunks))) }
+    ensures page { (g : Geometry) (layouts : Layouts) (group : ℕ) (chunks : Group) (k : ℕ) → FIRST_PAGE_BLOCK ≤ page_of layouts group → k < BLOCK_SECTORS
+        → metadata g layouts group chunks (page_place layouts group + k) ≡ Some (part k (page_bytes g layouts group chunks)) }
+    ensures inode { (g : Geometry) (layouts : Layouts) (group : ℕ) (chunks : Group) (agino : ℕ) (inode : Inode) → page_of layouts group ≤ LAST_PAGE_BLOCK
+        → FIRST_DATA_BLOCK * BLOCK_SECTORS ≤ agino → inode_in chunks agino ≡ Some inode → metadata g layouts group chunks agino ≡ Some (inode_sector g layouts group agino inode) }
+    ensures place { (g : Geometry) (t : Table) (layouts : Layouts) (image : List Sector) (group agino : ℕ) (inode : Inode) → CanSpell g t layouts image → group < g.groups
+        → inode_in (group_of t group) agino ≡ Some inode → (FIRST_DATA_BLOCK * BLOCK_SECTORS ≤ agino) × (agino < group_sectors g) }
 {}
