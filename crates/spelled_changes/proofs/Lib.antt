@@ -13,3 +13,4 @@ pub mod Created
 pub mod Touched
 pub mod Bitmaps
 pub mod Standing
+pub mod Links

@@ -13,6 +13,10 @@ use Rattle.sound_image.specs.Spelling.{Layouts, layout_of, metadata}
 abbrev pub homes : List Image → List ℕ
 homes images = map (λ (image : Image). image.home) images
 
+-- the image of these bytes for a place of a group
+abbrev pub image_at : Geometry → ℕ → ℕ → List ℕ → Image
+image_at g group place bytes = record { home = sector_in g group place; sector = record { bytes = bytes } }
+
 -- the image's home is a place of a group, and its sector what the format says of that place
 pub record IsOfGroup (g : Geometry) (layouts : Layouts) (group : ℕ) (chunks : Group) (image : Image) : Type 0 where
   pub place : ℕ

@@ -1,6 +1,6 @@
 // Laws of the definitions. Each is the contract of a function that does nothing.
 
-ghost use Rattle.std.specs.Prelude.{◌≡◌, ◌≢◌, ◌⊎◌, ◌+◌, ◌≤◌, ◌<◌, ◌*◌, ◌/◌, ◌%◌, ℕ, true, false, List, [], None, Some, is_none, length};
+ghost use Rattle.std.specs.Prelude.{◌≡◌, ◌≢◌, ◌⊎◌, ◌+◌, ◌≤◌, ◌<◌, ◌*◌, ◌/◌, ◌%◌, ℕ, true, false, List, [], ◌∷◌, None, Some, is_none, length};
 ghost use Rattle.life_limits.specs.declared.TheConstants.{BLOCK_SECTORS, BUCKETS, FIRST_DATA_BLOCK, FIRST_PAGE_BLOCK, GROUP_NUMBERS, LAST_PAGE_BLOCK, NO_INODE, SECTOR_BYTES};
 ghost use Rattle.life_bytes.specs.declared.sector.Sector.{Sector};
 ghost use Rattle.geometry.specs.declared.shape.Geometry.{Geometry};
@@ -21,7 +21,7 @@ ghost use Rattle.sound_image.specs.Spelling.{Layouts, AreLayouts, CanSpell, head
 ghost use Rattle.sound_image.specs.Rules.{free_set};
 ghost use Rattle.ag_header.specs.Headers.{spelling as header_spelling};
 ghost use Rattle.free_map.specs.Bitmap.{bitmap};
-ghost use Rattle.spelled_changes.specs.Tell.{AreImagesOf, ChangesOnly, Stays, Tell, TellGroup};
+ghost use Rattle.spelled_changes.specs.Tell.{AreImagesOf, ChangesOnly, Stays, Tell, TellGroup, image_at};
 ghost use Rattle.spelled_changes.specs.Changes.{FollowInode, HaveSameBlocks, IsOfBitmap, IsOfChunk, IsOfNoNewChunk, IsOfPage, PutsFirst, Relists, TakesOut, put_in, taken_from, unused_inode};
 
 /// A law: images that tell a change, put over what spells the table before it, give what spells the table after it. Where one group alone has changed,
@@ -174,4 +174,17 @@ pub fn places_have_their_metadata()
         → FIRST_DATA_BLOCK * BLOCK_SECTORS ≤ agino → inode_in chunks agino ≡ Some inode → metadata g layouts group chunks agino ≡ Some (inode_sector g layouts group agino inode) }
     ensures place { (g : Geometry) (t : Table) (layouts : Layouts) (image : List Sector) (group agino : ℕ) (inode : Inode) → CanSpell g t layouts image → group < g.groups
         → inode_in (group_of t group) agino ≡ Some inode → (FIRST_DATA_BLOCK * BLOCK_SECTORS ≤ agino) × (agino < group_sectors g) }
+{}
+
+/// A law: where an inode stays in use or out of it, its blocks stay, and its list too, the image of its sector tells the change; where it comes to be without
+/// links and is put first in its list, those of the header and of its sector do.
+pub fn links_are_told()
+    ensures alone { (g : Geometry) (t : Table) (layouts : Layouts) (image : List Sector) (group agino : ℕ) (old new : Inode) → CanSpell g t layouts image → group < g.groups
+        → inode_in (group_of t group) agino ≡ Some old → is_none new.row ≡ is_none old.row → HaveSameBlocks old new
+        → TellGroup g group layouts (group_of t group) layouts (set_inode (group_of t group) agino new) (image_at g group agino (inode_sector g layouts group agino new) ∷ []) }
+    ensures put { (g : Geometry) (t : Table) (layouts others : Layouts) (image : List Sector) (group agino : ℕ) (old new : Inode) → CanSpell g t layouts image → group < g.groups
+        → inode_in (group_of t group) agino ≡ Some old → is_none new.row ≡ is_none old.row → HaveSameBlocks old new → PutsFirst layouts others group agino
+        → TellGroup g group layouts (group_of t group) others (set_inode (group_of t group) agino new)
+        (image_at g group header_place (header_spelling (header_for g group (set_inode (group_of t group) agino new) others))
+        ∷ image_at g group agino (inode_sector g others group agino new) ∷ []) }
 {}
