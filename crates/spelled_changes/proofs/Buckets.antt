@@ -83,7 +83,7 @@ times-here b x xs e = times-cons b x xs ∙ ap (λ (n : ℕ). n + times b xs) (c
 pub times-tail : (b x : ℕ) (xs : List ℕ) → times b xs ≤ times b (x ∷ xs)
 times-tail b x xs = omega (arith, times-cons b x xs)
 
-head_times : (members : List ℕ) (agino : ℕ) → agino ≢ NO_INODE → head_of members ≡ agino → 1 ≤ times agino members
+pub head_times : (members : List ℕ) (agino : ℕ) → agino ≢ NO_INODE → head_of members ≡ agino → 1 ≤ times agino members
 unfolding head_of
 head_times [] agino some e = absurd (some (sym e))
 head_times (member ∷ members) agino some e = omega (arith, times-here agino member members e)
@@ -129,6 +129,15 @@ one_before (member ∷ members) agino first second few some e f =
             | inr behind ↦ one_before members agino first second (omega (arith, times-tail agino member members)) some
                 (sym (next-later member members first past) ∙ e) (sym (next-later member members second behind) ∙ f)
           ]
+    ]
+
+-- nor does one that stands once follow itself
+pub not_itself : (members : List ℕ) (agino : ℕ) → times agino members ≤ 1 → agino ≢ NO_INODE → next_in members agino ≢ agino
+not_itself [] agino few some e = some (sym (sym (next-none agino) ∙ e))
+not_itself (member ∷ members) agino few some e =
+    elim (cases_eq member agino) [
+      | inl here ↦ let behind = head_times members agino some (sym (next-here member members agino here) ∙ e) in omega (arith, times-here agino member members here)
+      | inr past ↦ not_itself members agino (omega (arith, times-tail agino member members)) some (sym (next-later member members agino past) ∙ e)
     ]
 
 -- ---- the heads of the header

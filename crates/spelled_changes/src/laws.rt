@@ -177,7 +177,8 @@ pub fn places_have_their_metadata()
 {}
 
 /// A law: where an inode stays in use or out of it, its blocks stay, and its list too, the image of its sector tells the change; where it comes to be without
-/// links and is put first in its list, those of the header and of its sector do.
+/// links and is put first in its list, those of the header and of its sector do; where it ceases to be and is taken out, that of its sector and that of what
+/// pointed at it, the header or the inode before it.
 pub fn links_are_told()
     ensures alone { (g : Geometry) (t : Table) (layouts : Layouts) (image : List Sector) (group agino : ℕ) (old new : Inode) → CanSpell g t layouts image → group < g.groups
         → inode_in (group_of t group) agino ≡ Some old → is_none new.row ≡ is_none old.row → HaveSameBlocks old new
@@ -187,4 +188,15 @@ pub fn links_are_told()
         → TellGroup g group layouts (group_of t group) others (set_inode (group_of t group) agino new)
         (image_at g group header_place (header_spelling (header_for g group (set_inode (group_of t group) agino new) others))
         ∷ image_at g group agino (inode_sector g others group agino new) ∷ []) }
+    ensures taken_first { (g : Geometry) (t : Table) (layouts others : Layouts) (image : List Sector) (group agino : ℕ) (old new : Inode) → CanSpell g t layouts image → group < g.groups
+        → inode_in (group_of t group) agino ≡ Some old → is_none new.row ≡ is_none old.row → HaveSameBlocks old new → TakesOut layouts others group agino
+        → head_of (list_of layouts group (agino % BUCKETS)) ≡ agino
+        → TellGroup g group layouts (group_of t group) others (set_inode (group_of t group) agino new)
+        (image_at g group header_place (header_spelling (header_for g group (set_inode (group_of t group) agino new) others))
+        ∷ image_at g group agino (inode_sector g others group agino new) ∷ []) }
+    ensures taken_later { (g : Geometry) (t : Table) (layouts others : Layouts) (image : List Sector) (group agino before : ℕ) (old new other : Inode) → CanSpell g t layouts image → group < g.groups
+        → inode_in (group_of t group) agino ≡ Some old → is_none new.row ≡ is_none old.row → HaveSameBlocks old new → TakesOut layouts others group agino
+        → inode_in (group_of t group) before ≡ Some other → next_in (list_of layouts group (agino % BUCKETS)) before ≡ agino
+        → TellGroup g group layouts (group_of t group) others (set_inode (group_of t group) agino new)
+        (image_at g group before (inode_sector g others group before other) ∷ image_at g group agino (inode_sector g others group agino new) ∷ []) }
 {}
