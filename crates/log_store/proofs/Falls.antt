@@ -4,11 +4,10 @@ use Rattle.std.specs.Prelude.{IsTrue, Vec}
 use Rattle.std.specs.declared.alloc.Global.{Global}
 use Rattle.life_limits.specs.declared.TheConstants.{MAX_RECORD_SECTORS}
 use Rattle.life_bytes.specs.declared.sector.Sector.{Sector}
-use Rattle.disk_model.specs.Disk.{Cell, IsImage}
+use Rattle.disk_model.specs.Disk.{Cell, Elapses, IsImage}
 use Rattle.log_store.specs.declared.store.Stage.TheVariants.{Down}
 use Rattle.log_store.specs.declared.store.Job.TheVariants.{Idle}
 use Rattle.log_store.specs.declared.store.Store.{Store}
-use Rattle.log_store.specs.Moments.{LeavesOnly}
 use Rattle.log_store.specs.OnDisk.{Replays, ReplaysTo, base_of}
 use Rattle.log_store.specs.State.{state_of}
 use Rattle.log_store.specs.Steps.{Goes, IsStore}
@@ -18,7 +17,7 @@ pub falls : {D : Type 0} (told : Bool) (cells : D → List Cell) (count moment :
     → IsStore told cells count old → count disk ≡ count old.disk → length sectors.items ≡ 135
     → (IsTrue told → base_of (state_of old) (cells disk) ≡ base_of (state_of old) (cells old.disk))
     → (IsTrue told → (image : List Sector) → IsImage (cells disk) image → ReplaysTo (state_of old) (cells old.disk) image)
-    → (IsTrue told → LeavesOnly (moment old.disk) (moment disk) (left old.disk) (left disk) (ReplaysTo (state_of old) (cells old.disk)))
+    → (IsTrue told → Elapses (moment old.disk) (moment disk) (left old.disk) (left disk) (ReplaysTo (state_of old) (cells old.disk)))
     → Goes told cells count moment left old (record old { disk = disk; sectors = sectors; stage = Down fault; job = Idle })
 falls told cells count moment left old disk sectors fault store size long base images moments = record {
   store = record {

@@ -12,31 +12,30 @@ use Rattle.log_record.specs.declared.image.Commit.{Commit}
 use Rattle.log_image.specs.Overlay.{overlaid}
 use Rattle.log_image.specs.OverlayLaws.{overlaid-append, overlaid-none}
 use Rattle.log_batch.specs.Newest.{commit_images}
-use Rattle.log_store.specs.Moments.{LeavesOnly}
 use Rattle.log_store.specs.OnDisk.{ReplaysUpTo, base_of}
 use Rattle.log_store.specs.State.{State}
 use Rattle.log_store.specs.Steps.{Moves}
 
 -- a call of the disk leaves only what is left in it
 pub leaves : (before now : ℕ) (past since : ℕ → List Sector → Type 0) (cells : List Cell) (P : List Sector → Type 0)
-    → Elapses before now past since (IsImage cells) → ((image : List Sector) → IsImage cells image → P image) → LeavesOnly before now past since P
+    → Elapses before now past since (IsImage cells) → ((image : List Sector) → IsImage cells image → P image) → Elapses before now past since P
 leaves before now past since cells P time has = record {
   later = time.later;
-  each = λ moment image le left. elim (time.nothing_else moment image le left) [ inl was ↦ inl was | inr is ↦ inr (has image is) ];
+  nothing_else = λ moment image le left. elim (time.nothing_else moment image le left) [ inl was ↦ inl was | inr is ↦ inr (has image is) ];
   keeps = time.keeps;
 }
 
 -- without a call of the disk nothing more is left
-pub leaves_none : (now : ℕ) (since : ℕ → List Sector → Type 0) (P : List Sector → Type 0) → LeavesOnly now now since since P
-leaves_none now since P = record { later = omega arith; each = λ moment image le left. inl left; keeps = λ moment image le left. left }
+pub leaves_none : (now : ℕ) (since : ℕ → List Sector → Type 0) (P : List Sector → Type 0) → Elapses now now since since P
+leaves_none now since P = record { later = omega arith; nothing_else = λ moment image le left. inl left; keeps = λ moment image le left. left }
 
 -- one call after another
 pub leaves_both : (a b d : ℕ) (past mid since : ℕ → List Sector → Type 0) (P R Q : List Sector → Type 0) → ((image : List Sector) → R image → P image) → ((image : List Sector) → Q image → P image)
-    → LeavesOnly a b past mid R → LeavesOnly b d mid since Q → LeavesOnly a d past since P
+    → Elapses a b past mid R → Elapses b d mid since Q → Elapses a d past since P
 leaves_both a b d past mid since P R Q wider weaker first second = record {
   later = omega (arith, first.later, second.later);
-  each = λ moment image le left. elim (second.each moment image (omega (arith, first.later)) left) [
-    | inl was ↦ elim (first.each moment image le was) [ inl before ↦ inl before | inr is ↦ inr (wider image is) ]
+  nothing_else = λ moment image le left. elim (second.nothing_else moment image (omega (arith, first.later)) left) [
+    | inl was ↦ elim (first.nothing_else moment image le was) [ inl before ↦ inl before | inr is ↦ inr (wider image is) ]
     | inr is ↦ inr (weaker image is)
   ];
   keeps = λ moment image le left. second.keeps moment image (omega (arith, first.later)) (first.keeps moment image le left);

@@ -2,12 +2,11 @@
 use Rattle.std.proofs.Common.{◌≡◌, ℕ, Bool, false, List, refl, sym, ap, ◌∙◌, subst, arith}
 use Rattle.std.specs.Prelude.{IsTrue}
 use Rattle.life_bytes.specs.declared.sector.Sector.{Sector}
-use Rattle.disk_model.specs.Disk.{Cell, flushed}
+use Rattle.disk_model.specs.Disk.{Cell, Elapses, flushed}
 use Rattle.log_store.specs.declared.store.Stage.TheVariants.{Free}
 use Rattle.log_store.specs.declared.store.Job.{Job}
 use Rattle.log_store.specs.declared.store.Store.{Store}
 use Rattle.log_store.specs.Landed.{flushed_home}
-use Rattle.log_store.specs.Moments.{LeavesOnly}
 use Rattle.log_store.specs.OnDisk.{AtRest, ReplaysTo, base_of}
 use Rattle.log_store.specs.State.{State, state_of}
 use Rattle.log_store.specs.Steps.{Goes, IsStore, JobAsks}
@@ -20,7 +19,7 @@ pub lands_home : {D : Type 0} (told : Bool) (cells : D → List Cell) (count mom
     → IsStore told cells count old → JobAsks job old.queue.items old.batch old.ring old.positions.head old.positions.tail → old.stage ≡ Free → count disk ≡ count old.disk
     → (IsTrue told → cells disk ≡ flushed (cells old.disk))
     → ((s : State) (cs : List Cell) → AtRest s cs → AtRest (flushed_home s) (flushed cs))
-    → (IsTrue told → LeavesOnly (moment old.disk) (moment disk) (left old.disk) (left disk) (ReplaysTo (state_of old) (cells old.disk)))
+    → (IsTrue told → Elapses (moment old.disk) (moment disk) (left old.disk) (left disk) (ReplaysTo (state_of old) (cells old.disk)))
     → Goes told cells count moment left old (record old { disk = disk; unflushed = false; job = job })
 lands_home told cells count moment left old disk job store asks free size after law moments = record {
   store = record {

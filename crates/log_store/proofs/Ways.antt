@@ -5,7 +5,7 @@ use Rattle.std.specs.declared.alloc.Global.{Global}
 use Rattle.std.proofs.lemmas.Bool.{cases_lt}
 use Rattle.std.proofs.lemmas.List.{take-take, take_all, length-take, drop-take, drop_all}
 use Rattle.life_bytes.specs.declared.sector.Sector.{Sector}
-use Rattle.disk_model.specs.Disk.{Cell}
+use Rattle.disk_model.specs.Disk.{Cell, Elapses}
 use Rattle.log_record.specs.declared.image.Image.{Image}
 use Rattle.log_record.specs.declared.image.Commit.{Commit}
 use Rattle.log_store.specs.declared.store.Stage.{Stage}
@@ -13,7 +13,6 @@ use Rattle.log_store.specs.declared.store.Stage.TheVariants.{Cover, Down, Free, 
 use Rattle.log_store.specs.declared.store.Job.{Job}
 use Rattle.log_store.specs.declared.store.Job.TheVariants.{Idle}
 use Rattle.log_store.specs.declared.store.Store.{Store}
-use Rattle.log_store.specs.Moments.{LeavesOnly}
 use Rattle.log_store.specs.OnDisk.{AtRest, HoldsAtStage, ReplaysTo, ReplaysUpTo, base_of}
 use Rattle.log_store.specs.State.{State, state_of}
 use Rattle.log_store.specs.Steps.{Goes, IsStore, JobAsks, JobFits, StageFits}
@@ -115,7 +114,7 @@ pub goes_written : {D : Type 0} (told : Bool) (cells : D → List Cell) (count m
     → StageFits stage (record (state_of old) { stage = stage }) sectors.items old.count
     → (IsTrue told → HoldsAtStage stage (record (state_of old) { stage = stage }) (cells disk))
     → (IsTrue told → base_of (state_of old) (cells disk) ≡ base_of (state_of old) (cells old.disk))
-    → (IsTrue told → LeavesOnly (moment old.disk) (moment disk) (left old.disk) (left disk) (ReplaysTo (state_of old) (cells old.disk)))
+    → (IsTrue told → Elapses (moment old.disk) (moment disk) (left old.disk) (left disk) (ReplaysTo (state_of old) (cells old.disk)))
     → Goes told cells count moment left old (record old { disk = disk; sectors = sectors; stage = stage })
 goes_written told cells count moment left old disk sectors stage store job size long fits holds base moments = record {
   store = record {

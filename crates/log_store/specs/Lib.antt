@@ -1,5 +1,4 @@
 pub mod State
-pub mod Moments
 pub mod OnDisk
 pub mod Landed
 pub mod Calls

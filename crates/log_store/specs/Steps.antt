@@ -3,7 +3,7 @@ use Rattle.std.specs.Prelude.{ℕ, ◌≡◌, ◌≢◌, ◌≤◌, ◌<◌, ◌
 use Rattle.std.specs.List.{All}
 use Rattle.life_limits.specs.declared.TheConstants.{MAX_IMAGES, MAX_RECORD_SECTORS}
 use Rattle.life_bytes.specs.declared.sector.Sector.{Sector}
-use Rattle.disk_model.specs.Disk.{Cell}
+use Rattle.disk_model.specs.Disk.{Cell, Elapses}
 use Rattle.log_record.specs.declared.image.Commit.{Commit}
 use Rattle.log_record.specs.declared.image.Image.{Image}
 use Rattle.log_record.specs.Spelling.{FitsFields, sector_count, spelled}
@@ -16,7 +16,6 @@ use Rattle.log_store.specs.declared.store.Stage.TheVariants.{Free, Half, Record,
 use Rattle.log_store.specs.declared.store.Job.{Job}
 use Rattle.log_store.specs.declared.store.Job.TheVariants.{Clear, Force, Home, Idle, Nothing, WriteBack}
 use Rattle.log_store.specs.declared.store.Store.{Store}
-use Rattle.log_store.specs.Moments.{LeavesOnly}
 use Rattle.log_store.specs.OnDisk.{HoldsState, IsTaken, ReplaysUpTo, base_of, item_of}
 use Rattle.log_store.specs.State.{State, state_of}
 
@@ -124,7 +123,7 @@ pub record Moves (told : Bool) (old new : State) (before after : List Cell) : Ty
 pub record Goes {D : Type 0} (told : Bool) (cells : D → List Cell) (sector_count moment : D → ℕ) (left : D → ℕ → List Sector → Type 0) (old new : Store D) : Type 0 where
   pub store : IsStore told cells sector_count new
   pub moves : Moves told (state_of old) (state_of new) (cells old.disk) (cells new.disk)
-  pub moments : IsTrue told → LeavesOnly (moment old.disk) (moment new.disk) (left old.disk) (left new.disk)
+  pub moments : IsTrue told → Elapses (moment old.disk) (moment new.disk) (left old.disk) (left new.disk)
       (ReplaysUpTo new.positions.head (state_of old) (cells old.disk))
 
 -- a store that begins: nothing is taken, logged or in flight
