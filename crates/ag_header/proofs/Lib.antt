@@ -1,2 +1,2 @@
 pub mod HeadBytes
-pub mod Spelled
+pub mod Encoded

@@ -37,19 +37,19 @@ fields agi =
     ∷ piece 296 16 agi.uuid
     ∷ []
 
--- the sector that spells a header, with the checksum at byte 312
-unfoldable pub spelling : Agi → List ℕ
-spelling agi = sealed 312 (placed (fields agi) blank)
+-- the sector that encodes a header, with the checksum at byte 312
+unfoldable pub encoding : Agi → List ℕ
+encoding agi = sealed 312 (placed (fields agi) blank)
 
--- the sector spells the header
-pub record Spells (bytes : List ℕ) (agi : Agi) : Type 0 where
+-- the sector encodes the header
+pub record Encodes (bytes : List ℕ) (agi : Agi) : Type 0 where
   pub allowed : IsAgi agi
   pub fits : Fits agi
-  pub sector : bytes ≡ spelling agi
+  pub sector : bytes ≡ encoding agi
 
 -- the sector reads as some header
 abbrev pub IsHeader : List ℕ → Type 0
-IsHeader bytes = (agi : Agi) × Spells bytes agi
+IsHeader bytes = (agi : Agi) × Encodes bytes agi
 
 -- the header with another head of one bucket, with other counts, with another root
 abbrev pub with_head : Agi → ℕ → ℕ → Agi

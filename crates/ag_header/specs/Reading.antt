@@ -1,9 +1,9 @@
--- What the fields of a sector give, and that it is what the sector spells.
+-- What the fields of a sector give, and that it is what the sector encodes.
 use Rattle.std.specs.Prelude.{◌≡◌, ◌+◌, ◌*◌, ℕ, List, length, map, take, drop}
 use Rattle.std.specs.List.{range_with_len}
 use Rattle.life_bytes.specs.Fields.{field}
 use Rattle.ag_header.specs.declared.agi.Agi.{Agi}
-use Rattle.ag_header.specs.Headers.{IsAgi, Fits, Spells, spelling}
+use Rattle.ag_header.specs.Headers.{IsAgi, Fits, Encodes, encoding}
 
 -- the header that the fields give, whatever else the sector holds
 abbrev pub agi_in : List ℕ → Agi
@@ -18,8 +18,8 @@ agi_in bytes = record {
   uuid = take 16 (drop 296 bytes);
 }
 
--- What is spelled is read, so no sector spells two headers; and a header's spelling is a sector that spells it.
+-- What is encoded is read, so no sector encodes two headers; and a header's encoding is a sector that encodes it.
 pub record HeadersAreRead : Type 0 where
-  pub read : (bytes : List ℕ) (agi : Agi) → Spells bytes agi → agi_in bytes ≡ agi
-  pub spelled : (agi : Agi) → IsAgi agi → Fits agi → Spells (spelling agi) agi
-  pub long : (agi : Agi) → IsAgi agi → Fits agi → length (spelling agi) ≡ 512
+  pub read : (bytes : List ℕ) (agi : Agi) → Encodes bytes agi → agi_in bytes ≡ agi
+  pub encoded : (agi : Agi) → IsAgi agi → Fits agi → Encodes (encoding agi) agi
+  pub long : (agi : Agi) → IsAgi agi → Fits agi → length (encoding agi) ≡ 512

@@ -2,7 +2,7 @@
 
 ghost use Rattle.ag_header.specs.Reading.{HeadersAreRead};
 
-/// A law: the fields of a sector that spells a header give that header, so no sector spells two; and each header that is allowed has a sector.
-pub fn spelled_headers_are_read()
+/// A law: the fields of a sector that encodes a header give that header, so no sector encodes two; and each header that is allowed has a sector.
+pub fn encoded_headers_are_read()
     ensures { HeadersAreRead }
 {}

@@ -27,7 +27,7 @@ mod setting;
 mod writing;
 
 pub use agi::Agi;
-pub use laws::spelled_headers_are_read;
+pub use laws::encoded_headers_are_read;
 pub use reading::read_agi;
 pub use setting::{set_counts, set_head, set_root};
 pub use writing::write_agi;

@@ -3,7 +3,7 @@
 ghost use Rattle.std.specs.Prelude.{◌≡◌, ◌+◌, ◌*◌, ◌<◌, ◌↔◌, ℕ, IsTrue, IfSome, length, take, drop, get_or};
 ghost use Rattle.life_bytes.specs.Fields.{field};
 ghost use Rattle.ag_header.specs.declared.agi.Agi.{Agi};
-ghost use Rattle.ag_header.specs.Headers.{IsAgi, Spells};
+ghost use Rattle.ag_header.specs.Headers.{IsAgi, Encodes};
 
 use crate::agi::Agi;
 use crate::heads::heads_in;
@@ -47,9 +47,9 @@ fn is_agi(agi: &Agi) -> bool
         && agi.level <= MAX_LEVEL
 }
 
-/// Whether the sector spells this header, byte by byte.
-fn is_spelled(agi: &Agi, sector: &Sector) -> bool
-    ensures { IsTrue result ↔ Spells sector.now.bytes agi.now }
+/// Whether the sector encodes this header, byte by byte.
+fn is_encoded(agi: &Agi, sector: &Sector) -> bool
+    ensures { IsTrue result ↔ Encodes sector.now.bytes agi.now }
 {
     if !is_agi(agi) {
         return false;
@@ -59,13 +59,13 @@ fn is_spelled(agi: &Agi, sector: &Sector) -> bool
     again.is_same(sector)
 }
 
-/// Reads a group's header. None where the sector is no spelling of one, by any of its bytes.
+/// Reads a group's header. None where the sector is no encoding of one, by any of its bytes.
 pub fn read_agi(sector: &Sector) -> Option<Agi>
-    ensures found { IfSome result (Spells sector.now.bytes) }
-    ensures only { (agi : Agi) → Spells sector.now.bytes agi → result ≡ Some agi }
+    ensures found { IfSome result (Encodes sector.now.bytes) }
+    ensures only { (agi : Agi) → Encodes sector.now.bytes agi → result ≡ Some agi }
 {
     let agi = fields_of(sector);
-    if is_spelled(&agi, sector) {
+    if is_encoded(&agi, sector) {
         Some(agi)
     } else {
         None

@@ -2,7 +2,7 @@
 
 ghost use Rattle.std.specs.Prelude.{◌≡◌};
 ghost use Rattle.life_bytes.specs.Pieces.{placed, blank};
-ghost use Rattle.ag_header.specs.Headers.{Fits, IsAgi, Spells, fields};
+ghost use Rattle.ag_header.specs.Headers.{Fits, IsAgi, Encodes, fields};
 
 use crate::agi::Agi;
 use crate::heads::bytes_of;
@@ -42,7 +42,7 @@ fn with_fields(agi: &Agi) -> Sector
 /// Writes the whole sector.
 pub fn write_agi(agi: &Agi, into: &mut Sector)
     requires { IsAgi agi.now }
-    ensures { Spells into.new.bytes agi.now }
+    ensures { Encodes into.new.bytes agi.now }
 {
     let mut new = with_fields(agi);
     put_crc(&mut new.bytes, 312);

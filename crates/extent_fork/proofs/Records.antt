@@ -137,7 +137,7 @@ number_small g off run group offset is = omega (arith, is.end)
 pub run_read : (g : ℕ) (list : List Extent) (i : ℕ) (d : Extent) (bytes : List ℕ) → g < 16 → length list ≤ 21 → AllByRecursion IsRun list → i < length list → fork_of bytes ≡ fork g list
     → run_in (field 16 (176 + 16 * i) bytes) ≡ get_or list i d
 unfolding fork records
-run_read g list i d bytes group few all lt spelled =
+run_read g list i d bytes group few all lt encoded =
     let run = get_or list i d in
     let is = run_is list i d all lt in
     let off = 0 + total (take i list) in
@@ -145,7 +145,7 @@ run_read g list i d bytes group few all lt spelled =
     let others = records g (off + run.count) (drop (i + 1) list) in
     let small : off ≤ 344064 = omega (arith, total-take list i, total_small list all) in
     let from : drop (176 + 16 * i) bytes ≡ big_bytes 16 (record_number g off run) ++ (others ++ behind) =
-    sym (drop-drop (16 * i) 176 bytes) ∙ ap (drop (16 * i)) spelled ∙ drop-records g 0 list i behind (omega arith)
+    sym (drop-drop (16 * i) 176 bytes) ∙ ap (drop (16 * i)) encoded ∙ drop-records g 0 list i behind (omega arith)
     ∙ ap (λ (l : List Extent). records g off l ++ behind) (drop_more list i d lt) ∙ append_assoc (big_bytes 16 (record_number g off run)) others behind in
     ap run_in (ap (big_from 0 16) from ∙ big_number-reads_back 16 (record_number g off run) (others ++ behind) (number_small g off run group small is)) ∙ number_gives g off run is
 
@@ -153,7 +153,7 @@ pub runs_read : (g : ℕ) (list items : List Extent) (bytes : List ℕ) (extents
     → ((k : ℕ) (d : Extent) → k < extents → get_or items k d ≡ run_in (field 16 (176 + 16 * k) bytes)) → items ≡ list
 runs_read g list items bytes extents group few has many each =
     same_lists items list (many ∙ sym has.many)
-    (λ k d lt. each k d (omega arith) ∙ run_read g list k d bytes group (omega (arith, has.many)) has.runs.each (omega (arith, has.many)) has.spelled)
+    (λ k d lt. each k d (omega arith) ∙ run_read g list k d bytes group (omega (arith, has.many)) has.runs.each (omega (arith, has.many)) has.encoded)
 
 -- a sector is its front and its fork
 pub same_sector : (a b : List ℕ) → take 176 a ≡ take 176 b → fork_of a ≡ fork_of b → a ≡ b

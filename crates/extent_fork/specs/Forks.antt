@@ -18,7 +18,7 @@ unfoldable pub records : ℕ → ℕ → List Extent → List ℕ
 records group offset [] = []
 records group offset (run ∷ runs) = big_bytes 16 (record_number group offset run) ++ records group (offset + run.count) runs
 
--- the fork that spells the runs: their records, and zeros
+-- the fork that encodes the runs: their records, and zeros
 unfoldable pub fork : ℕ → List Extent → List ℕ
 fork group runs = records group 0 runs ++ zeros (336 - 16 * length runs)
 
@@ -37,4 +37,4 @@ pub record AreRuns (list : List Extent) : Type 0 where
 pub record HasFork (bytes : List ℕ) (count group : ℕ) (list : List Extent) : Type 0 where
   pub runs : AreRuns list
   pub many : length list ≡ count
-  pub spelled : fork_of bytes ≡ fork group list
+  pub encoded : fork_of bytes ≡ fork group list

@@ -23,7 +23,7 @@ runs_in count bytes = map (λ k. run_in (field 16 (176 + 16 * k) bytes)) (range_
 abbrev pub IsDataBlock : ℕ → Type 0
 IsDataBlock block = (FIRST_DATA_BLOCK ≤ block) × (block < MAX_BLOCKS)
 
--- What is spelled is read, so no fork spells two lists of runs; the fork of few runs has its 336 bytes; and each list of data blocks
+-- What is encoded is read, so no fork encodes two lists of runs; the fork of few runs has its 336 bytes; and each list of data blocks
 -- has runs that a fork may have, whose blocks are the list. The runs of a fork are the runs of their blocks.
 pub record ForksAreRead : Type 0 where
   pub read : (bytes : List ℕ) (count group : ℕ) (runs : List Extent) → group < MAX_GROUPS → count ≤ MAX_EXTENTS → HasFork bytes count group runs → runs_in count bytes ≡ runs

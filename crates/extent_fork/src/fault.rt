@@ -7,7 +7,7 @@ use std::alloc::{AllocError, AllocFailed};
 /// Why a fork was not read.
 #[derive(Clone, Copy, Debug, PartialEq, Eq)]
 pub enum ForkFault {
-    /// The fork spells no such list.
+    /// The fork encodes no such list.
     Malformed,
     NoMemory,
 }

@@ -2,8 +2,8 @@
 
 ghost use Rattle.extent_fork.specs.Reading.{ForksAreRead};
 
-/// A law: the records of a fork that spells runs give those runs, so no fork spells two lists; and each list of data blocks has runs that a fork
+/// A law: the records of a fork that encodes runs give those runs, so no fork encodes two lists; and each list of data blocks has runs that a fork
 /// may have, whose blocks are the list.
-pub fn spelled_forks_are_read()
+pub fn encoded_forks_are_read()
     ensures { ForksAreRead }
 {}

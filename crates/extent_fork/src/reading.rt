@@ -77,7 +77,7 @@ fn has_fork(sector: &Sector, list: &[Extent], group: u32) -> bool
     again.is_same(sector)
 }
 
-/// Reads the `extents` records of an inode of the group. `Malformed` where the fork is no spelling of
+/// Reads the `extents` records of an inode of the group. `Malformed` where the fork is no encoding of
 /// so many runs, by any of its bytes.
 pub fn read_fork(
     alloc: Global,

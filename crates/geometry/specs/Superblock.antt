@@ -18,10 +18,10 @@ superblock g =
     ∷ piece 24 16 g.uuid
     ∷ []
 
--- the sector that spells a geometry: its fields over zeros, and the checksum at byte 40
-unfoldable pub spelling : Geometry → List ℕ
-spelling g = sealed 40 (placed (superblock g) blank)
+-- the sector that encodes a geometry: its fields over zeros, and the checksum at byte 40
+unfoldable pub encoding : Geometry → List ℕ
+encoding g = sealed 40 (placed (superblock g) blank)
 
--- no sector spells two geometries
+-- no sector encodes two geometries
 abbrev pub SuperblocksTell : Type 0
-SuperblocksTell = (a b : Geometry) → IsGeometry a → IsGeometry b → spelling a ≡ spelling b → a ≡ b
+SuperblocksTell = (a b : Geometry) → IsGeometry a → IsGeometry b → encoding a ≡ encoding b → a ≡ b

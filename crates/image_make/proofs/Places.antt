@@ -5,12 +5,12 @@ use Rattle.std.proofs.lemmas.Bool.{lt-leb, lt-ltb, le-ltb, ne_eqb, cond-true, co
 use Rattle.life_bytes.specs.declared.sector.Sector.{Sector}
 use Rattle.life_bytes.specs.Sectors.{zero_sector}
 use Rattle.geometry.specs.declared.shape.Geometry.{Geometry}
-use Rattle.ag_header.specs.Headers.{spelling as header_spelling}
+use Rattle.ag_header.specs.Headers.{encoding as header_encoding}
 use Rattle.free_map.specs.Bitmap.{bitmap}
 use Rattle.life_table.specs.Table.{inode_in}
 use Rattle.sound_image.specs.Places.{part}
 use Rattle.sound_image.specs.Rules.{free_set}
-use Rattle.sound_image.specs.Spelling.{header_for, layout_of, page_of, page_place, page_bytes, metadata}
+use Rattle.sound_image.specs.Encoding.{header_for, layout_of, page_of, page_place, page_bytes, metadata}
 use Rattle.image_make.specs.Empty.{empty_sector, sector_at}
 use Rattle.image_make.proofs.Putting.{with_at, length-with_at, put_inside, put_before, put_behind, all_zero}
 
@@ -21,12 +21,12 @@ abbrev is_page : ℕ → Bool
 is_page place = leb 16 place && ltb place 24
 
 by_tests : (g : Geometry) (group place : ℕ) → metadata g [] group [] place
-    ≡ cond (eqb place 2) (Some (header_spelling (header_for g group [] []))) (cond (is_bitmap place) (Some (part (place - 8) (bitmap (free_set g.blocks []))))
+    ≡ cond (eqb place 2) (Some (header_encoding (header_for g group [] []))) (cond (is_bitmap place) (Some (part (place - 8) (bitmap (free_set g.blocks []))))
     (cond (is_page place) (Some (part (place - 16) (page_bytes g [] group []))) None))
 unfolding metadata page_place page_of layout_of inode_in
 by_tests g group place = refl
 
-pub at_header : (g : Geometry) (group : ℕ) → metadata g [] group [] 2 ≡ Some (header_spelling (header_for g group [] []))
+pub at_header : (g : Geometry) (group : ℕ) → metadata g [] group [] 2 ≡ Some (header_encoding (header_for g group [] []))
 at_header g group = by_tests g group 2
 
 within : (low high place : ℕ) → low ≤ place → place < high → (leb low place && ltb place high) ≡ true
@@ -90,7 +90,7 @@ no_sector g group place is = ap (λ (o : Option (List ℕ)). sector_of (unwrap_o
 
 -- the head of a group, as it is put together
 pub record Head (g : Geometry) (group : ℕ) (header : Sector) (map page head : List Sector) : Type 0 where
-  pub header_is : header.bytes ≡ header_spelling (header_for g group [] [])
+  pub header_is : header.bytes ≡ header_encoding (header_for g group [] [])
   pub map_long : length map ≡ 4
   pub map_is : (k : ℕ) → k < 4 → (sector_at map k).bytes ≡ part k (bitmap (free_set g.blocks []))
   pub page_long : length page ≡ 8
@@ -155,7 +155,7 @@ Right g group head k = sector_at head k ≡ empty_sector g group (2 + k)
 at_zero : (g : Geometry) (group : ℕ) (header : Sector) (map page head : List Sector) → Head g group header map page head → Right g group head 0
 at_zero g group header map page head h =
     aside g group header map page head 0 h (omega arith) (inl (omega arith))
-    ∙ some_sector g group 2 header (header_spelling (header_for g group [] [])) (at_header g group) h.header_is
+    ∙ some_sector g group 2 header (header_encoding (header_for g group [] [])) (at_header g group) h.header_is
 
 at_map : (g : Geometry) (group : ℕ) (header : Sector) (map page head : List Sector) (j : ℕ) → Head g group header map page head → j < 4 → Right g group head (6 + j)
 at_map g group header map page head j h lt =

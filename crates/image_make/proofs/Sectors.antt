@@ -10,7 +10,7 @@ use Rattle.disk_model.specs.DiskLaws.{IsTorn, IsTorn-from_image, IsTorn-from_one
 use Rattle.geometry.specs.declared.shape.Geometry.{Geometry}
 use Rattle.geometry.specs.Places.{group_sectors}
 use Rattle.geometry.specs.Shape.{IsGeometry}
-use Rattle.geometry.specs.Superblock.{spelling}
+use Rattle.geometry.specs.Superblock.{encoding}
 use Rattle.sound_image.specs.Places.{bytes_at, sector_in}
 use Rattle.log_image.specs.Anchor.{anchor_sector}
 use Rattle.whole_image.specs.Front.{anchor_of}
@@ -146,15 +146,15 @@ untold_blank g image shape untold =
     ap (λ (s : Sector). s.bytes)
     (ap (sector_at image) (sym e) ∙ untold.groups 0 0 (omega (arith, shape.groups)) (omega arith) ∙ no_sector g 0 0 (at_none g 0 0 (inl (omega arith))))
 
-pub told_from : (g : Geometry) (image : List Sector) (sector : Sector) → IsGeometry g → sector.bytes ≡ spelling g → IsUntold g image → IsTold g (with_at 0 (sector ∷ []) image)
-told_from g image sector shape spells untold =
+pub told_from : (g : Geometry) (image : List Sector) (sector : Sector) → IsGeometry g → sector.bytes ≡ encoding g → IsUntold g image → IsTold g (with_at 0 (sector ∷ []) image)
+told_from g image sector shape encodes untold =
     let least = large g shape in
     let room = up_to 0 g.groups (group_sectors g) shape.groups.0 in
     let pieces : List Sector = sector ∷ [] in
     let fits : 0 + length pieces ≤ length image = omega (arith, untold.size) in
     record {
       size = omega (arith, untold.size, length-with_at 0 pieces image fits);
-      first = spells;
+      first = encodes;
       groups = λ group place lt low some. put_behind 0 (sector_in g group place) pieces image fits (omega arith) ∙ untold.groups group place lt low;
       anchor = put_behind 0 (anchor_of g) pieces image fits (omega arith) ∙ untold.anchor;
       ring = λ s gt. put_behind 0 s pieces image fits (omega arith) ∙ untold.ring s gt;

@@ -20,7 +20,7 @@ use Rattle.life_table.specs.History.{closed, closed_inode}
 use Rattle.life_table.specs.declared.table.Inode.{Inode}
 use Rattle.life_table.specs.WellFormed.{IsTable}
 use Rattle.sound_image.specs.Places.{bytes_at, sector_in}
-use Rattle.sound_image.specs.Spelling.{Layouts, AreLayouts, CanSpell, layout_of, list_of, page_of, metadata, spelled, spelled_bytes, is_unlinked}
+use Rattle.sound_image.specs.Encoding.{Layouts, AreLayouts, CanEncode, layout_of, list_of, page_of, metadata, encoded, encoded_bytes, is_unlinked}
 use Rattle.sound_image.specs.Stands.{HasSuperblock, IsLongEnough}
 use Rattle.log_image.specs.Anchor.{HasAnchor}
 use Rattle.log_image.specs.Log.{AreBelow, groups_part}
@@ -71,8 +71,8 @@ layouts g = record {
   buckets = λ group bucket agino lt low. in_no_list (eqb (agino % BUCKETS) bucket) (inode_in (group_of (empty_of g) group) agino) (no_inode g group agino);
 }
 
-can_spell : (g : Geometry) (base : List Sector) → IsGeometry g → IsTable (empty_of g) → anchor_of g ≤ length base → CanSpell g (empty_of g) [] base
-can_spell g base shape table enough =
+can_encode : (g : Geometry) (base : List Sector) → IsGeometry g → IsTable (empty_of g) → anchor_of g ≤ length base → CanEncode g (empty_of g) [] base
+can_encode g base shape table enough =
     record { shape = shape; table = table; groups = many_groups g.groups; blocks = refl; layouts_of = layouts g; size = enough }
 
 -- ---- the groups
@@ -119,9 +119,9 @@ by_place groups size s lt =
           absurd (omega arith)
     ]
 
-spelled_at : (g : Geometry) (image : List Sector) (s : ℕ) → IsTold g image → s < anchor_of g → spelled_bytes g (empty_of g) [] (base_of g image) s ≡ bytes_at (base_of g image) s
-unfolding spelled_bytes bytes_at sector_in
-spelled_at g image s told lt =
+encoded_at : (g : Geometry) (image : List Sector) (s : ℕ) → IsTold g image → s < anchor_of g → encoded_bytes g (empty_of g) [] (base_of g image) s ≡ bytes_at (base_of g image) s
+unfolding encoded_bytes bytes_at sector_in
+encoded_at g image s told lt =
     let size : ℕ = group_sectors g in
     let at = by_place g.groups size s lt in
     let old : List ℕ = (get_or (base_of g image) s zero_sector).bytes in
@@ -135,17 +135,17 @@ spelled_at g image s told lt =
 abbrev sector_of : List ℕ → Sector
 sector_of bytes = record { bytes = bytes }
 
-groups_spelled : (g : Geometry) (image : List Sector) → IsTold g image → base_of g image ≡ spelled g (empty_of g) [] (base_of g image)
-unfolding spelled bytes_at
-groups_spelled g image told =
+groups_encoded : (g : Geometry) (image : List Sector) → IsTold g image → base_of g image ≡ encoded g (empty_of g) [] (base_of g image)
+unfolding encoded bytes_at
+groups_encoded g image told =
     let base : List Sector = base_of g image in
     let long : length base ≡ anchor_of g = length-take-le (anchor_of g) image (omega (arith, told.size)) in
-    let same = length-map-range_with_len (λ s. sector_of (spelled_bytes g (empty_of g) [] base s)) 0 (length base) in
-    same_lists base (spelled g (empty_of g) [] base) (sym same)
+    let same = length-map-range_with_len (λ s. sector_of (encoded_bytes g (empty_of g) [] base s)) 0 (length base) in
+    same_lists base (encoded g (empty_of g) [] base) (sym same)
     (λ k d lt.
     get_or_default base k d zero_sector lt
-    ∙ ap sector_of (sym (spelled_at g image k told (omega arith)))
-    ∙ sym (get_or-map-range_with_len (λ s. sector_of (spelled_bytes g (empty_of g) [] base s)) 0 (length base) k k d lt (omega arith)))
+    ∙ ap sector_of (sym (encoded_at g image k told (omega arith)))
+    ∙ sym (get_or-map-range_with_len (λ s. sector_of (encoded_bytes g (empty_of g) [] base s)) 0 (length base) k k d lt (omega arith)))
 
 -- ---- the anchor and the ring
 
@@ -177,16 +177,16 @@ ring_below g image shape told = record {
 
 pub stands : ((groups blocks : ℕ) → 1 ≤ groups → groups ≤ MAX_GROUPS → MIN_BLOCKS ≤ blocks → blocks ≤ MAX_BLOCKS → IsTable (empty_table VERSION groups blocks))
     → ((g : Geometry) (t : Table) (layouts : Layouts) (base image : List Sector) (position next : ℕ) → HasSuperblock g image → IsLongEnough g image
-    → HasAnchor image (anchor_of g) g.ring position next → AreBelow (ring_of g image) position → CanSpell g t layouts base
-    → groups_part (anchor_of g) image ≡ spelled g t layouts base → Stands image (closed t) next)
+    → HasAnchor image (anchor_of g) g.ring position next → AreBelow (ring_of g image) position → CanEncode g t layouts base
+    → groups_part (anchor_of g) image ≡ encoded g t layouts base → Stands image (closed t) next)
     → (g : Geometry) (image : List Sector) → IsGeometry g → IsTold g image → IsEmptyImage g image
 unfolding bytes_at
-stands empty spells g image shape told =
+stands empty encodes g image shape told =
     let base : List Sector = base_of g image in
     let long : length base ≡ anchor_of g = length-take-le (anchor_of g) image (omega (arith, told.size)) in
-    let has : HasSuperblock g image = record { shape = shape; spelled = told.first } in (
+    let has : HasSuperblock g image = record { shape = shape; encoded = told.first } in (
       has,
       subst (λ (t : Table). Stands image t 1) (closed_empty g)
-          (spells g (empty_of g) [] base image g.ring 1 has told.size (anchor_there g image shape told) (ring_below g image shape told)
-          (can_spell g base shape (well_formed empty g shape) (omega arith)) (groups_spelled g image told)),
+          (encodes g (empty_of g) [] base image g.ring 1 has told.size (anchor_there g image shape told) (ring_below g image shape told)
+          (can_encode g base shape (well_formed empty g shape) (omega arith)) (groups_encoded g image told)),
     )

@@ -4,9 +4,9 @@ use Rattle.life_bytes.specs.declared.sector.Sector.{Sector}
 use Rattle.life_bytes.specs.Sectors.{zero_sector}
 use Rattle.geometry.specs.declared.shape.Geometry.{Geometry}
 use Rattle.geometry.specs.Places.{group_sectors}
-use Rattle.geometry.specs.Superblock.{spelling}
+use Rattle.geometry.specs.Superblock.{encoding}
 use Rattle.sound_image.specs.Places.{sector_in}
-use Rattle.sound_image.specs.Spelling.{metadata}
+use Rattle.sound_image.specs.Encoding.{metadata}
 use Rattle.log_image.specs.Anchor.{anchor_sector}
 use Rattle.whole_image.specs.Front.{anchor_of}
 
@@ -34,7 +34,7 @@ pub record IsUntold (g : Geometry) (image : List Sector) : Type 0 where
 -- the same with its superblock
 pub record IsTold (g : Geometry) (image : List Sector) : Type 0 where
   pub size : anchor_of g + 1 + g.ring ≤ length image
-  pub first : (sector_at image 0).bytes ≡ spelling g
+  pub first : (sector_at image 0).bytes ≡ encoding g
   pub groups : (group place : ℕ) → group < g.groups → place < group_sectors g → 0 < sector_in g group place
       → sector_at image (sector_in g group place) ≡ empty_sector g group place
   pub anchor : sector_at image (anchor_of g) ≡ anchor_sector g.ring 1

@@ -5,11 +5,11 @@ ghost use Rattle.life_bytes.specs.SectorBytes.{bytes_of};
 ghost use Rattle.life_bytes.specs.Sectors.{zero_sector};
 ghost use Rattle.life_limits.specs.declared.TheConstants.{FIRST_DATA_BLOCK, MAX_BLOCKS};
 ghost use Rattle.geometry.specs.Shape.{IsGeometry};
-ghost use Rattle.ag_header.specs.Headers.{spelling as header_spelling};
+ghost use Rattle.ag_header.specs.Headers.{encoding as header_encoding};
 ghost use Rattle.free_map.specs.Bitmap.{bitmap};
 ghost use Rattle.sound_image.specs.Places.{part};
 ghost use Rattle.sound_image.specs.Rules.{free_set};
-ghost use Rattle.sound_image.specs.Spelling.{header_for, page_bytes};
+ghost use Rattle.sound_image.specs.Encoding.{header_for, page_bytes};
 ghost use Rattle.image_make.specs.Empty.{empty_sector, sector_at};
 
 use ag_header::{Agi, write_agi};
@@ -78,7 +78,7 @@ pub(crate) fn empty_bitmap(blocks: u32) -> [Sector; BITMAP_SECTORS]
 /// The header of a group without a chunk.
 fn empty_header(g: &Geometry, group: u32) -> Sector
     requires { IsGeometry g.now }
-    ensures { result.bytes ≡ header_spelling (header_for g.now group [] []) }
+    ensures { result.bytes ≡ header_encoding (header_for g.now group [] []) }
 {
     let mut sector = Sector::zero();
     let agi = Agi {

@@ -8,7 +8,7 @@ ghost use Rattle.image_make.specs.Empty.{IsTold};
 ghost use Rattle.image_make.specs.Outcome.{IsBlank, IsBlankOrEmpty, IsEmptyImage};
 
 use life_table::tables_stay_well_formed;
-use whole_image::{blank_images_are_damaged, spelled_images_stand};
+use whole_image::{blank_images_are_damaged, encoded_images_stand};
 
 /// Laws of the sectors: without the superblock an image is damaged, and with it the image stands for the empty table.
 pub(crate) fn made_images()
@@ -16,6 +16,6 @@ pub(crate) fn made_images()
     ensures told { (g : Geometry) (image : List Sector) → IsGeometry g → IsTold g image → IsEmptyImage g image }
 {
     tables_stay_well_formed();
-    spelled_images_stand();
+    encoded_images_stand();
     blank_images_are_damaged();
 }

@@ -183,27 +183,27 @@ part_of (s ∷ ss) (suc k) all low =
     ∙ ap (λ (bytes : List ℕ). take 512 bytes) (drop-append-add s.bytes (bytes_of ss) (512 * k))
     ∙ part_of ss k (All-tail (λ (s : Sector). length s.bytes ≡ 512) s ss all) (omega arith)
 
--- the sectors that were read are those of the bitmap, and the others spell the free blocks
+-- the sectors that were read are those of the bitmap, and the others encode the free blocks
 pub record Compares (g : Geometry) (image : List Sector) (group : ℕ) (sectors others : List Sector) (map : List Bool) : Type 0 where
   pub shows : Shows image (sector_in g group 8) sectors
   pub many : length sectors ≡ 4
   pub as_many : length others ≡ 4
   pub long : All (λ (s : Sector). length s.bytes ≡ 512) others
-  pub spelled : bytes_of others ≡ bitmap map
+  pub encoded : bytes_of others ≡ bitmap map
   pub free : map ≡ free_set g.blocks (group_read g image group)
 
 read_side : (g : Geometry) (image : List Sector) (group k : ℕ) (sectors others : List Sector) (map : List Bool) → Compares g image group sectors others map → k < 4 → bytes_at image (sector_in g group (8 + k)) ≡ bytes_at sectors k
 read_side g image group k sectors others map c low = ap (bytes_at image) (sector_next g group 8 k) ∙ c.shows.each k (omega (arith, low, c.many))
 
-spelled_side : (g : Geometry) (image : List Sector) (group k : ℕ) (sectors others : List Sector) (map : List Bool) → Compares g image group sectors others map → k < 4
+encoded_side : (g : Geometry) (image : List Sector) (group k : ℕ) (sectors others : List Sector) (map : List Bool) → Compares g image group sectors others map → k < 4
     → part k (bitmap (free_set g.blocks (group_read g image group))) ≡ bytes_at others k
-spelled_side g image group k sectors others map c low =
-    ap (λ (bits : List Bool). part k (bitmap bits)) (sym c.free) ∙ ap (part k) (sym c.spelled) ∙ part_of others k c.long (omega (arith, low, c.as_many))
+encoded_side g image group k sectors others map c low =
+    ap (λ (bits : List Bool). part k (bitmap bits)) (sym c.free) ∙ ap (part k) (sym c.encoded) ∙ part_of others k c.long (omega (arith, low, c.as_many))
 
 pub right_from : (g : Geometry) (image : List Sector) (group k : ℕ) (sectors others : List Sector) (map : List Bool) → Compares g image group sectors others map → k < 4 → bytes_at sectors k ≡ bytes_at others k
     → IsBitmapRight g image group k
-right_from g image group k sectors others map c low same = read_side g image group k sectors others map c low ∙ same ∙ sym (spelled_side g image group k sectors others map c low)
+right_from g image group k sectors others map c low same = read_side g image group k sectors others map c low ∙ same ∙ sym (encoded_side g image group k sectors others map c low)
 
 pub right_to : (g : Geometry) (image : List Sector) (group k : ℕ) (sectors others : List Sector) (map : List Bool) → Compares g image group sectors others map → k < 4 → IsBitmapRight g image group k
     → bytes_at sectors k ≡ bytes_at others k
-right_to g image group k sectors others map c low right = sym (read_side g image group k sectors others map c low) ∙ right ∙ spelled_side g image group k sectors others map c low
+right_to g image group k sectors others map c low right = sym (read_side g image group k sectors others map c low) ∙ right ∙ encoded_side g image group k sectors others map c low

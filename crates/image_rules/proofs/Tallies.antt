@@ -13,7 +13,7 @@ use Rattle.life_table.specs.declared.table.Inode.{Inode}
 use Rattle.life_table.specs.declared.table.Chunk.{Chunk}
 use Rattle.sound_image.specs.Counts.{orphans_in}
 use Rattle.sound_image.specs.Reading.{chunk_read, group_read, inode_read, records_of}
-use Rattle.sound_image.specs.Spelling.{is_unlinked_row}
+use Rattle.sound_image.specs.Encoding.{is_unlinked_row}
 use Rattle.image_rules.specs.Counted.{chunk_orphans, one_if_orphan}
 use Rattle.image_rules.specs.Gathered.{row_unless}
 use Rattle.image_rules.proofs.Gathering.{row_read}

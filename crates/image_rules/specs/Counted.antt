@@ -9,7 +9,7 @@ use Rattle.life_table.specs.declared.table.Inode.{Inode}
 use Rattle.life_table.specs.Table.{Group}
 use Rattle.sound_image.specs.Counts.{inodes_in, orphans_in, chunk_count, inode_count, orphan_count}
 use Rattle.sound_image.specs.Reading.{chunk_read, group_read, rows_of}
-use Rattle.sound_image.specs.Spelling.{is_unlinked_row}
+use Rattle.sound_image.specs.Encoding.{is_unlinked_row}
 use Rattle.image_rules.specs.declared.tables.Tables.{Tables}
 
 -- one where an inode is in use without links, else none

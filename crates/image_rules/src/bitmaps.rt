@@ -69,10 +69,10 @@ pub(crate) fn check_bitmap<V: View>(
 {
     let at = sector_at(g, group, BITMAP);
     let sectors = read_sectors(alloc, view, at, BITMAP_SECTORS)?;
-    let mut spelled = [Sector::zero(); 4];
-    map.write_map(&mut spelled);
-    have_their_bytes(&spelled);
-    match first_other(&sectors, &spelled) {
+    let mut encoded = [Sector::zero(); 4];
+    map.write_map(&mut encoded);
+    have_their_bytes(&encoded);
+    match first_other(&sectors, &encoded) {
         None => Ok(()),
         Some(index) => Err(CheckFault::Damaged {
             rule: BITMAP_RULE,

@@ -7,7 +7,7 @@ ghost use Rattle.sound_image.specs.Places.{bytes_at, sector_in, header_place};
 ghost use Rattle.sound_image.specs.Reading.{header_of};
 ghost use Rattle.sound_image.specs.Rules.{IsHeaderRight};
 
-use ag_header::{Agi, read_agi, spelled_headers_are_read};
+use ag_header::{Agi, read_agi, encoded_headers_are_read};
 use geometry::Geometry;
 use life_bytes::Sector;
 
@@ -19,7 +19,7 @@ pub fn right_header(g: &Geometry, group: u32, sector: &Sector) -> Option<Agi>
     ensures wrong { (image : List Sector) → bytes_at image (sector_in g.now group header_place) ≡ sector.now.bytes
         → IfNone result (¬ IsHeaderRight g.now image group) }
 {
-    spelled_headers_are_read();
+    encoded_headers_are_read();
     let agi = read_agi(sector)?;
     if agi.group == group && agi.blocks == g.blocks && agi.uuid == g.uuid {
         Some(agi)

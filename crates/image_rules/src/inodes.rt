@@ -14,9 +14,9 @@ ghost use Rattle.sound_image.specs.Places.{bytes_at, sector_in};
 ghost use Rattle.sound_image.specs.Reading.{core_of, blocks_in};
 ghost use Rattle.sound_image.specs.Rules.{IsCoreRight, IsForkRight};
 
-use extent_fork::{Extent, ForkFault, read_fork, spelled_forks_are_read};
+use extent_fork::{Extent, ForkFault, read_fork, encoded_forks_are_read};
 use geometry::{Geometry, number};
-use inode_core::{Core, read_core, spelled_cores_are_read};
+use inode_core::{Core, read_core, encoded_cores_are_read};
 use life_bytes::Sector;
 use std::alloc::{AllocFailed, Global};
 
@@ -38,7 +38,7 @@ pub fn right_core(g: &Geometry, group: u32, agino: u32, live: bool, sector: &Sec
         → IfNone result (¬ IsCoreRight g.now image group agino inode) }
     ensures live { IfSome result (λ core. IsCore core × (core.live ≡ live)) }
 {
-    spelled_cores_are_read();
+    encoded_cores_are_read();
     has_its_bytes(sector);
     let core = read_core(sector, number(group, agino), &g.uuid)?;
     if core.live == live { Some(core) } else { None }
@@ -110,7 +110,7 @@ pub fn right_blocks(
         → result ≡ Err Malformed → ¬ IsForkRight g.now image group agino }
     ensures in_data { IfOk result (λ blocks. All (λ block. (24 ≤ block) × (block < g.now.blocks)) blocks.items) }
 {
-    spelled_forks_are_read();
+    encoded_forks_are_read();
     let runs = read_fork(alloc, sector, core.extents, group)?;
     if !are_within(g.blocks, &runs) || count_blocks(&runs) != core.blocks {
         return Err(ForkFault::Malformed);

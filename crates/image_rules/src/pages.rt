@@ -12,7 +12,7 @@ ghost use Rattle.image_rules.specs.Shown.{Shows, Counts};
 
 use ag_header::Agi;
 use geometry::Geometry;
-use inobt_leaf::{ChunkRec, Leaf, PageFault, read_page, spelled_pages_are_read};
+use inobt_leaf::{ChunkRec, Leaf, PageFault, read_page, encoded_pages_are_read};
 use life_bytes::Sector;
 use life_limits::{BLOCK_SECTORS, CHUNK_INODES, FIRST_DATA_BLOCK};
 use std::alloc::Global;
@@ -58,7 +58,7 @@ pub fn right_leaf(
         → result ≡ Err Malformed → ¬ IsPageRight g.now image group }
     ensures in_data { IfOk result (λ leaf. All (IsInData g.now.blocks) leaf) }
 {
-    spelled_pages_are_read();
+    encoded_pages_are_read();
     let at = u64::from(group * (g.blocks * BLOCK_SECTORS) + BLOCK_SECTORS * root);
     let leaf = read_page(alloc, page, root, group, at, &g.uuid)?;
     if are_in_data(g.blocks, leaf.chunks()) {

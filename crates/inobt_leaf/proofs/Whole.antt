@@ -12,7 +12,7 @@ use Rattle.life_bytes.specs.PieceLaws.{Apart}
 use Rattle.life_bytes.specs.TableLaws.{AreRows, IsAside, is_aside, number_at, length-placed, length-sealed, sealed_other}
 use Rattle.inobt_leaf.specs.declared.chunk.ChunkRec.{ChunkRec}
 use Rattle.inobt_leaf.specs.Chunks.{IsChunk, IsLeaf}
-use Rattle.inobt_leaf.specs.Pages.{header, chunk_rows, records, blank_page, spelling, chunk_at, chunks_in}
+use Rattle.inobt_leaf.specs.Pages.{header, chunk_rows, records, blank_page, encoding, chunk_at, chunks_in}
 use Rattle.inobt_leaf.specs.PageLaws.{PagesAreRead}
 use Rattle.inobt_leaf.proofs.Tables.{row_among, AreRows-chunk, AreRows-records, IsAside-records, records-append}
 
@@ -45,8 +45,8 @@ number_among before mid after k at n v a b c found aside apart beside small =
 
 -- the count in the header
 pub count_says : (chunks : List ChunkRec) (group at : ℕ) (uuid : List ℕ) → length uuid ≡ 16 → length chunks ≤ 252
-    → field 2 6 (spelling chunks group at uuid) ≡ length chunks
-unfolding spelling
+    → field 2 6 (encoding chunks group at uuid) ≡ length chunks
+unfolding encoding
 count_says chunks group at uuid is few =
     number_among [] (header (length chunks) group at uuid) (records 56 chunks) 1 6 2 (length chunks) tt
     (AreRows-header (length chunks) group at uuid is) (AreRows-records 4096 56 chunks (omega arith)) refl refl
@@ -72,8 +72,8 @@ parts chunks group at uuid i d h =
 field_says : (chunks : List ChunkRec) (group at : ℕ) (uuid : List ℕ) (i : ℕ) (d : ChunkRec) (k place n v : ℕ) → length uuid ≡ 16 → length chunks ≤ 252 → i < length chunks
     → slice_get (chunk_rows (56 + 16 * i) (get_or chunks i d)) k ≡ Some (number place n v)
     → is_aside place n (drop (k + 1) (chunk_rows (56 + 16 * i) (get_or chunks i d))) ≡ true
-    → 56 ≤ place → place + n ≤ 56 + 16 * i + 16 → v < 256 ^ n → field n place (spelling chunks group at uuid) ≡ v
-unfolding spelling
+    → 56 ≤ place → place + n ≤ 56 + 16 * i + 16 → v < 256 ^ n → field n place (encoding chunks group at uuid) ≡ v
+unfolding encoding
 field_says chunks group at uuid i d k place n v is few h found aside low high small =
     let front : List Row = header (length chunks) group at uuid ++ records 56 (take i chunks) in
     let count : length (take i chunks) ≡ i = length-take-le i chunks (omega arith) in
@@ -90,16 +90,16 @@ chunk_of a b c = record { start = a; free = b; mask = c }
 
 -- record i
 pub chunk_says : (chunks : List ChunkRec) (group at : ℕ) (uuid : List ℕ) (i : ℕ) (d : ChunkRec) → IsLeaf chunks → length uuid ≡ 16 → i < length chunks
-    → chunk_at (spelling chunks group at uuid) (56 + 16 * i) ≡ get_or chunks i d
+    → chunk_at (encoding chunks group at uuid) (56 + 16 * i) ≡ get_or chunks i d
 chunk_says chunks group at uuid i d leaf is h =
     let chunk : ChunkRec = get_or chunks i d in
     let fits : IsChunk chunk = All-get_or IsChunk chunks i d h leaf.each in
     let p : ℕ = 56 + 16 * i in
-    let start : field 4 p (spelling chunks group at uuid) ≡ chunk.start =
+    let start : field 4 p (encoding chunks group at uuid) ≡ chunk.start =
     field_says chunks group at uuid i d 0 p 4 chunk.start is leaf.few h refl (two_aside p) (omega arith) (omega arith) (omega (arith, fits.start)) in
-    let free : field 4 (p + 4) (spelling chunks group at uuid) ≡ chunk.free =
+    let free : field 4 (p + 4) (encoding chunks group at uuid) ≡ chunk.free =
     field_says chunks group at uuid i d 1 (p + 4) 4 chunk.free is leaf.few h refl (one_aside p) (omega arith) (omega arith) (omega (arith, fits.free, ones-le 64 chunk.mask fits.mask)) in
-    let mask : field 8 (p + 8) (spelling chunks group at uuid) ≡ chunk.mask =
+    let mask : field 8 (p + 8) (encoding chunks group at uuid) ≡ chunk.mask =
     field_says chunks group at uuid i d 2 (p + 8) 8 chunk.mask is leaf.few h refl refl (omega arith) (omega arith) (omega (arith, fits.mask)) in
     made start free mask
   where
@@ -114,30 +114,30 @@ chunk_says chunks group at uuid i d leaf is h =
     made : {a b c a' b' c' : ℕ} → a ≡ a' → b ≡ b' → c ≡ c' → chunk_of a b c ≡ chunk_of a' b' c'
     made e f g = cc
 
--- the chunks that a page says are those that it spells
+-- the chunks that a page says are those that it encodes
 pub page_says : (chunks : List ChunkRec) (group at : ℕ) (uuid : List ℕ) → IsLeaf chunks → length uuid ≡ 16
-    → map (λ i. chunk_at (spelling chunks group at uuid) (56 + 16 * i)) (range_with_len 0 (length chunks)) ≡ chunks
+    → map (λ i. chunk_at (encoding chunks group at uuid) (56 + 16 * i)) (range_with_len 0 (length chunks)) ≡ chunks
 page_says chunks group at uuid leaf is =
-    let f : ℕ → ChunkRec = λ i. chunk_at (spelling chunks group at uuid) (56 + 16 * i) in
+    let f : ℕ → ChunkRec = λ i. chunk_at (encoding chunks group at uuid) (56 + 16 * i) in
     same_lists (map f (range_with_len 0 (length chunks))) chunks (length-map-range_with_len f 0 (length chunks))
     (λ k d l.
     let below : k < length chunks = omega (arith, l, length-map-range_with_len f 0 (length chunks)) in
     get_or-map-range_with_len f 0 (length chunks) k k d below (omega arith) ∙ chunk_says chunks group at uuid k d leaf is below)
 
--- what is read of a page is what it spells
+-- what is read of a page is what it encodes
 pub read_again : (chunks read : List ChunkRec) (bytes : List ℕ) (count group at : ℕ) (uuid : List ℕ) → IsLeaf chunks → length uuid ≡ 16
-    → bytes ≡ spelling chunks group at uuid → count ≡ field 2 6 bytes → read ≡ map (λ i. chunk_at bytes (56 + 16 * i)) (range_with_len 0 count) → read ≡ chunks
-read_again chunks read bytes count group at uuid leaf is spelled counted got =
-    let many : count ≡ length chunks = counted ∙ ap (field 2 6) spelled ∙ count_says chunks group at uuid is leaf.few in
+    → bytes ≡ encoding chunks group at uuid → count ≡ field 2 6 bytes → read ≡ map (λ i. chunk_at bytes (56 + 16 * i)) (range_with_len 0 count) → read ≡ chunks
+read_again chunks read bytes count group at uuid leaf is encoded counted got =
+    let many : count ≡ length chunks = counted ∙ ap (field 2 6) encoded ∙ count_says chunks group at uuid is leaf.few in
     got
     ∙ ap (λ (n : ℕ). map (λ i. chunk_at bytes (56 + 16 * i)) (range_with_len 0 n)) many
-    ∙ ap (λ (b : List ℕ). map (λ i. chunk_at b (56 + 16 * i)) (range_with_len 0 (length chunks))) spelled
+    ∙ ap (λ (b : List ℕ). map (λ i. chunk_at b (56 + 16 * i)) (range_with_len 0 (length chunks))) encoded
     ∙ page_says chunks group at uuid leaf is
 
 -- a page's length
-pub length-spelling : (chunks : List ChunkRec) (group at : ℕ) (uuid : List ℕ) → IsLeaf chunks → length uuid ≡ 16 → length (spelling chunks group at uuid) ≡ 4096
-unfolding spelling
-length-spelling chunks group at uuid leaf is =
+pub length-encoding : (chunks : List ChunkRec) (group at : ℕ) (uuid : List ℕ) → IsLeaf chunks → length uuid ≡ 16 → length (encoding chunks group at uuid) ≡ 4096
+unfolding encoding
+length-encoding chunks group at uuid leaf is =
     let table : List Row = header (length chunks) group at uuid ++ records 56 chunks in
     let rows : AreRows 4096 table =
     AreRows-append 4096 (header (length chunks) group at uuid) (records 56 chunks) (AreRows-header (length chunks) group at uuid is) (AreRows-records 4096 56 chunks (omega (arith, leaf.few))) in
@@ -145,16 +145,16 @@ length-spelling chunks group at uuid leaf is =
     length-sealed 52 (placed table blank_page) (omega (arith, long)) ∙ long
 
 -- one page, one leaf
-pub spelling-injective : (a b : List ChunkRec) (group at : ℕ) (uuid : List ℕ) → IsLeaf a → IsLeaf b → length uuid ≡ 16
-    → spelling a group at uuid ≡ spelling b group at uuid → a ≡ b
-spelling-injective a b group at uuid leaf_a leaf_b is same =
-    sym (read_again a _ (spelling a group at uuid) (field 2 6 (spelling a group at uuid)) group at uuid leaf_a is refl refl refl)
-    ∙ read_again b _ (spelling a group at uuid) (field 2 6 (spelling a group at uuid)) group at uuid leaf_b is same refl refl
+pub encoding-injective : (a b : List ChunkRec) (group at : ℕ) (uuid : List ℕ) → IsLeaf a → IsLeaf b → length uuid ≡ 16
+    → encoding a group at uuid ≡ encoding b group at uuid → a ≡ b
+encoding-injective a b group at uuid leaf_a leaf_b is same =
+    sym (read_again a _ (encoding a group at uuid) (field 2 6 (encoding a group at uuid)) group at uuid leaf_a is refl refl refl)
+    ∙ read_again b _ (encoding a group at uuid) (field 2 6 (encoding a group at uuid)) group at uuid leaf_b is same refl refl
 
 pub pages_are_read : PagesAreRead
 pages_are_read = record {
   read = λ chunks group at uuid leaf is.
-      let page : List ℕ = spelling chunks group at uuid in
+      let page : List ℕ = encoding chunks group at uuid in
       read_again chunks (chunks_in page) page (field 2 6 page) group at uuid leaf is refl refl refl;
-  long = length-spelling;
+  long = length-encoding;
 }

@@ -45,8 +45,8 @@ unfoldable pub blank_page : List ℕ
 blank_page = replicate BLOCK_BYTES 0
 
 -- the page: its fields over zeros, and the checksum at byte 52
-unfoldable pub spelling : List ChunkRec → ℕ → ℕ → List ℕ → List ℕ
-spelling chunks group at uuid = sealed 52 (placed (header (length chunks) group at uuid ++ records 56 chunks) blank_page)
+unfoldable pub encoding : List ChunkRec → ℕ → ℕ → List ℕ → List ℕ
+encoding chunks group at uuid = sealed 52 (placed (header (length chunks) group at uuid ++ records 56 chunks) blank_page)
 
 -- the record that stands at a place
 abbrev pub chunk_at : List ℕ → ℕ → ChunkRec

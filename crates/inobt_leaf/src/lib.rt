@@ -11,7 +11,7 @@ mod sectors;
 mod writing;
 
 pub use chunk::ChunkRec;
-pub use laws::{pages_tell_leaves, spelled_pages_are_read};
+pub use laws::{pages_tell_leaves, encoded_pages_are_read};
 pub use leaf::{Leaf, LeafFault};
 pub use masks::masks_change_by_one_bit;
 pub use reading::{PageFault, read_page};

@@ -5,13 +5,13 @@ ghost use Rattle.std.specs.List.{range_with_len};
 ghost use Rattle.life_limits.specs.declared.TheConstants.{MAX_CHUNKS};
 ghost use Rattle.life_bytes.specs.SectorBytes.{bytes_of};
 ghost use Rattle.inobt_leaf.specs.Chunks.{IsChunk, IsLeaf};
-ghost use Rattle.inobt_leaf.specs.Pages.{spelling, chunk_at};
+ghost use Rattle.inobt_leaf.specs.Pages.{encoding, chunk_at};
 ghost use Rattle.inobt_leaf.specs.declared.chunk.ChunkRec.{ChunkRec};
 
 use crate::chunk::ChunkRec;
 use crate::leaf::{LEAF_CHUNKS, Leaf};
 use crate::sectors::gather;
-use crate::writing::{HEADER_BYTES, RECORD_BYTES, spell};
+use crate::writing::{HEADER_BYTES, RECORD_BYTES, encode};
 use life_bytes::{Sector, field_u16, field_u32, field_u64};
 use life_limits::CHUNK_INODES;
 use std::alloc::{AllocError, Global};
@@ -19,7 +19,7 @@ use std::alloc::{AllocError, Global};
 /// Why a page was not read.
 #[derive(Clone, Copy, Debug, PartialEq, Eq)]
 pub enum PageFault {
-    /// The page spells no leaf of this place.
+    /// The page encodes no leaf of this place.
     Malformed,
     NoMemory,
 }
@@ -83,10 +83,10 @@ fn read_records(alloc: Global, bytes: &[u8], count: usize) -> Result<Vec<ChunkRe
 /// Whether the bytes are the page of these chunks, byte by byte.
 fn is_page_of(chunks: &[ChunkRec], bytes: &[u8], group: u32, at: u64, uuid: &[u8; 16]) -> bool
     requires { length chunks.now ≤ MAX_CHUNKS }
-    ensures sound { IsTrue result → IsLeaf chunks.now × (bytes.now ≡ spelling chunks.now group at uuid.now) }
-    ensures complete { IsLeaf chunks.now → bytes.now ≡ spelling chunks.now group at uuid.now → IsTrue result }
+    ensures sound { IsTrue result → IsLeaf chunks.now × (bytes.now ≡ encoding chunks.now group at uuid.now) }
+    ensures complete { IsLeaf chunks.now → bytes.now ≡ encoding chunks.now group at uuid.now → IsTrue result }
 {
-    is_leaf(chunks) && bytes == spell(chunks, group, at, uuid).as_slice()
+    is_leaf(chunks) && bytes == encode(chunks, group, at, uuid).as_slice()
 }
 
 /// Reads a leaf with no sibling from the 8 sectors of its page. The page stands at block `block` of the group, and its
@@ -100,11 +100,11 @@ pub fn read_page(
     uuid: &[u8; 16],
 ) -> Result<Leaf, PageFault>
     requires { length page.now ≡ 8 }
-    // What is read is spelled so.
-    ensures found { IfOk result (λ leaf. IsLeaf leaf × (bytes_of page.now ≡ spelling leaf group at uuid.now)) }
+    // What is read is encoded so.
+    ensures found { IfOk result (λ leaf. IsLeaf leaf × (bytes_of page.now ≡ encoding leaf group at uuid.now)) }
 
-    // What is spelled so is read, unless memory runs out; so a page is malformed only where no leaf is spelled so.
-    ensures only { (chunks : List ChunkRec) → IsLeaf chunks → bytes_of page.now ≡ spelling chunks group at uuid.now
+    // What is encoded so is read, unless memory runs out; so a page is malformed only where no leaf is encoded so.
+    ensures only { (chunks : List ChunkRec) → IsLeaf chunks → bytes_of page.now ≡ encoding chunks group at uuid.now
         → MatchResult result (λ leaf. leaf ≡ chunks) (λ fault. fault ≡ PageFault.NoMemory) }
 {
     let bytes = gather(page);

@@ -4,7 +4,7 @@ ghost use Rattle.std.specs.Prelude.{◌≡◌, ◌+◌, ◌≤◌, [], length};
 ghost use Rattle.life_limits.specs.declared.TheConstants.{BLOCK_BYTES, MAX_CHUNKS};
 ghost use Rattle.life_bytes.specs.Pieces.{placed};
 ghost use Rattle.life_bytes.specs.SectorBytes.{bytes_of};
-ghost use Rattle.inobt_leaf.specs.Pages.{header, blank_page, chunk_rows, records, spelling};
+ghost use Rattle.inobt_leaf.specs.Pages.{header, blank_page, chunk_rows, records, encoding};
 
 use crate::chunk::ChunkRec;
 use crate::leaf::Leaf;
@@ -63,9 +63,9 @@ fn put_records(bytes: &mut [u8], chunks: &[ChunkRec])
 }
 
 /// The bytes of the page of a leaf.
-pub fn spell(chunks: &[ChunkRec], group: u32, at: u64, uuid: &[u8; 16]) -> [u8; PAGE_BYTES]
+pub fn encode(chunks: &[ChunkRec], group: u32, at: u64, uuid: &[u8; 16]) -> [u8; PAGE_BYTES]
     requires { length chunks.now ≤ MAX_CHUNKS }
-    ensures { result ≡ spelling chunks.now group at uuid.now }
+    ensures { result ≡ encoding chunks.now group at uuid.now }
 {
     let mut bytes = blank_page();
     put_header(&mut bytes, chunks.len() as u16, group, at, uuid);
@@ -85,17 +85,17 @@ pub fn write_page(
     page: &mut [Sector],
 )
     requires { length page.old ≡ 8 }
-    ensures { bytes_of page.new ≡ spelling leaf.now group at uuid.now }
+    ensures { bytes_of page.new ≡ encoding leaf.now group at uuid.now }
 {
-    let bytes = spell(leaf.chunks(), group, at, uuid);
+    let bytes = encode(leaf.chunks(), group, at, uuid);
     scatter(&bytes, page);
 }
 
 /// Writes the page of a leaf without chunks, which takes no memory: the place is named as for `write_page`.
 pub fn write_empty_page(group: u32, at: u64, uuid: &[u8; 16], page: &mut [Sector])
     requires { length page.old ≡ 8 }
-    ensures { bytes_of page.new ≡ spelling [] group at uuid.now }
+    ensures { bytes_of page.new ≡ encoding [] group at uuid.now }
 {
-    let bytes = spell(&[], group, at, uuid);
+    let bytes = encode(&[], group, at, uuid);
     scatter(&bytes, page);
 }

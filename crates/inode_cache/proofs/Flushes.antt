@@ -51,8 +51,8 @@ clean_buffer cache agino buffer kept there clean =
 
 pub dirty_buffer : (cache : Cache) (group : ℕ) (uuid : List ℕ) (es : List (ℕ × Kept)) (before agino : ℕ) (buffer new : List ℕ) (kept : Kept) → cache_of group uuid es before ≡ cache
     → inode_at cache agino ≡ Some kept → kept.dirty ≡ true → new ≡ inode_bytes group uuid agino kept.inode → new ≡ flushed_bytes cache agino buffer
-dirty_buffer cache group uuid es before agino buffer new kept is there dirty spelled =
-    spelled ∙ ap (λ (c : Cache). inode_bytes c.group c.uuid agino kept.inode) is
+dirty_buffer cache group uuid es before agino buffer new kept is there dirty encoded =
+    encoded ∙ ap (λ (c : Cache). inode_bytes c.group c.uuid agino kept.inode) is
     ∙ sym (ap (flushed_of cache agino buffer) there ∙ cond-true kept.dirty (inode_bytes cache.group cache.uuid agino kept.inode) buffer dirty)
 
 -- ---- a cluster
@@ -131,9 +131,9 @@ flushed_all cluster cache old now into place done all = record {
   spare = done.spare;
 }
 
--- buffers that spelled what was clean are the sectors of the rows
+-- buffers that encoded what was clean are the sectors of the rows
 pub flushed_rows : (cache : Cache) (agino : ℕ) (buffer : List ℕ) → (IsClean cache agino → buffer ≡ row_bytes cache agino buffer) → flushed_bytes cache agino buffer ≡ row_bytes cache agino buffer
-flushed_rows cache agino buffer spelled = by_case (inode_at cache agino) spelled
+flushed_rows cache agino buffer encoded = by_case (inode_at cache agino) encoded
   where
     one : (b : Bool) (new old : List ℕ) → (b ≡ false → old ≡ new) → cond b new old ≡ new
     one true new old same = refl

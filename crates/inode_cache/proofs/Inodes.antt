@@ -2,7 +2,7 @@
 use Rattle.std.proofs.Common.{◌≡◌, ℕ, ◌≤◌, false, Option, Some, List, [], ◌∷◌, length, take, refl, sym, ap, subst, ◌∙◌, arith}
 use Rattle.std.specs.Prelude.{All, IfSome}
 use Rattle.life_limits.specs.declared.TheConstants.{FIRST_DATA_BLOCK}
-use Rattle.inode_core.specs.Cores.{Spells, spelling, fork_of, no_fork}
+use Rattle.inode_core.specs.Cores.{Encodes, encoding, fork_of, no_fork}
 use Rattle.extent_fork.specs.declared.extent.Extent.{Extent}
 use Rattle.extent_fork.specs.Forks.{fork, records}
 use Rattle.extent_fork.specs.Runs.{runs}
@@ -33,9 +33,9 @@ pub free_fork : (inode : Incore) (group : ℕ) → IsInode inode → inode.core.
 free_fork inode group is free =
     ap (λ (l : List ℕ). fork group (runs l)) (no_blocks inode.blocks (sym is.count ∙ (is.allowed.free free).blocks)) ∙ fork_of_no_runs group
 
-pub spelled_inode : (bytes uuid : List ℕ) (ino group agino : ℕ) (inode : Incore) (list : List Extent) → Spells bytes ino uuid inode.core → fork_of bytes ≡ fork group list
+pub encoded_inode : (bytes uuid : List ℕ) (ino group agino : ℕ) (inode : Incore) (list : List Extent) → Encodes bytes ino uuid inode.core → fork_of bytes ≡ fork group list
     → list ≡ runs inode.blocks → ino ≡ number_of group agino → bytes ≡ inode_bytes group uuid agino inode
 unfolding inode_bytes
-spelled_inode bytes uuid ino group agino inode list spells has runs_are number =
-    spells.sector ∙ ap (λ (f : List ℕ). spelling inode.core ino uuid f) (has ∙ ap (fork group) runs_are)
-    ∙ ap (λ (n : ℕ). spelling inode.core n uuid (fork group (runs inode.blocks))) number
+encoded_inode bytes uuid ino group agino inode list encodes has runs_are number =
+    encodes.sector ∙ ap (λ (f : List ℕ). encoding inode.core ino uuid f) (has ∙ ap (fork group) runs_are)
+    ∙ ap (λ (n : ℕ). encoding inode.core n uuid (fork group (runs inode.blocks))) number

@@ -49,6 +49,6 @@ with_inode agino kept cache spare = record { group = cache.group; uuid = cache.u
 abbrev pub without_inode : ℕ → Cache → ℕ → Cache
 without_inode agino cache spare = record { group = cache.group; uuid = cache.uuid; inodes = map.remove cache.inodes agino; spare = spare }
 
--- What is in core are inodes of the group that sectors can spell.
+-- What is in core are inodes of the group that sectors can encode.
 abbrev pub AreInodes : List (ℕ × Kept) → Type 0
 AreInodes entries = (agino : ℕ) (kept : Kept) → lookup (nat_eq agino) entries ≡ Some kept → IsInode kept.inode × (agino < GROUP_NUMBERS)

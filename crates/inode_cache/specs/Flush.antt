@@ -51,7 +51,7 @@ pub record IsFlushed (cluster : ℕ) (old new : Cache) : Type 0 where
   pub uuid : new.uuid ≡ old.uuid
   pub spare : new.spare ≡ old.spare
 
--- The buffers of a cluster spell the inodes that are in core and clean.
+-- The buffers of a cluster encode the inodes that are in core and clean.
 abbrev pub AreUpToDate : Cache → ℕ → List Sector → Type 0
 AreUpToDate cache cluster buffers =
     (place : ℕ) (d : Sector) → place < CLUSTER_INODES → IsClean cache (member cluster place)

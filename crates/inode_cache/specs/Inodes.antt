@@ -1,13 +1,13 @@
--- Inodes in core, and the sectors that spell them.
+-- Inodes in core, and the sectors that encode them.
 use Rattle.std.specs.Prelude.{◌≡◌, ◌+◌, ◌*◌, ℕ, List, All, length}
 use Rattle.life_limits.specs.declared.TheConstants.{GROUP_NUMBERS}
-use Rattle.inode_core.specs.Cores.{IsCore, spelling}
+use Rattle.inode_core.specs.Cores.{IsCore, encoding}
 use Rattle.extent_fork.specs.Forks.{fork}
 use Rattle.extent_fork.specs.Reading.{IsDataBlock}
 use Rattle.extent_fork.specs.Runs.{runs}
 use Rattle.inode_cache.specs.declared.inode.Incore.{Incore}
 
--- an inode that a sector can spell: its core is allowed, and counts its data blocks and their runs
+-- an inode that a sector can encode: its core is allowed, and counts its data blocks and their runs
 pub record IsInode (inode : Incore) : Type 0 where
   pub allowed : IsCore inode.core
   pub data_blocks : All IsDataBlock inode.blocks
@@ -18,6 +18,6 @@ pub record IsInode (inode : Incore) : Type 0 where
 abbrev pub number_of : ℕ → ℕ → ℕ
 number_of group agino = group * GROUP_NUMBERS + agino
 
--- the sector that spells the inode of this number in the group: its core before the fork of the runs of its blocks
+-- the sector that encodes the inode of this number in the group: its core before the fork of the runs of its blocks
 unfoldable pub inode_bytes : ℕ → List ℕ → ℕ → Incore → List ℕ
-inode_bytes group uuid agino inode = spelling inode.core (number_of group agino) uuid (fork group (runs inode.blocks))
+inode_bytes group uuid agino inode = encoding inode.core (number_of group agino) uuid (fork group (runs inode.blocks))

@@ -69,7 +69,7 @@ impl InodeCache {
         Ok(())
     }
 
-    /// Puts an inode in that its buffer spells. It takes no memory where there is room for one.
+    /// Puts an inode in that its buffer encodes. It takes no memory where there is room for one.
     pub fn install(&mut self, agino: u32, core: Core, blocks: Blocks) -> Result<(), NoMemory>
         requires agino_small { agino < GROUP_NUMBERS }
         requires absent { inode_at self.old agino ≡ None }
@@ -103,7 +103,7 @@ impl InodeCache {
         &self.inodes.get(&agino).unwrap().inode
     }
 
-    /// Whether the inode, which has to be in core, is as its buffer spells it.
+    /// Whether the inode, which has to be in core, is as its buffer encodes it.
     pub fn clean(&self, agino: u32) -> bool
         requires { IsSome (inode_at self.now agino) }
         ensures { IsTrue result ↔ IsClean self.now agino }
@@ -147,7 +147,7 @@ impl InodeCache {
         requires buffers { length into.old ≡ CLUSTER_INODES }
         ensures buffers { AreFlushed self.old cluster into.old into.new }
         ensures inodes { IsFlushed cluster self.old self.new }
-        // Where the buffers spelled what was clean, they are the sectors of the cluster's rows.
+        // Where the buffers encoded what was clean, they are the sectors of the cluster's rows.
         ensures rows { AreUpToDate self.old cluster into.old → AreRows self.old cluster into.old into.new }
     {
         for place in 0..CLUSTER_INODES {

@@ -54,12 +54,12 @@ fields core ino uuid =
     ∷ piece 160 16 uuid
     ∷ []
 
--- the sector that spells a core before a fork, with the checksum at byte 100
-unfoldable pub spelling : Core → ℕ → List ℕ → List ℕ → List ℕ
-spelling core ino uuid fork = sealed 100 (placed (fields core ino uuid ++ (piece 176 336 fork ∷ [])) blank)
+-- the sector that encodes a core before a fork, with the checksum at byte 100
+unfoldable pub encoding : Core → ℕ → List ℕ → List ℕ → List ℕ
+encoding core ino uuid fork = sealed 100 (placed (fields core ino uuid ++ (piece 176 336 fork ∷ [])) blank)
 
--- the sector spells the core, under this number and uuid
-pub record Spells (bytes : List ℕ) (ino : ℕ) (uuid : List ℕ) (core : Core) : Type 0 where
+-- the sector encodes the core, under this number and uuid
+pub record Encodes (bytes : List ℕ) (ino : ℕ) (uuid : List ℕ) (core : Core) : Type 0 where
   pub allowed : IsCore core
   pub fork : core.live ≡ false → fork_of bytes ≡ no_fork
-  pub sector : bytes ≡ spelling core ino uuid (fork_of bytes)
+  pub sector : bytes ≡ encoding core ino uuid (fork_of bytes)

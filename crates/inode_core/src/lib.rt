@@ -25,7 +25,7 @@ mod reading;
 mod shape;
 mod writing;
 
-pub use laws::spelled_cores_are_read;
+pub use laws::encoded_cores_are_read;
 pub use reading::read_core;
 pub use shape::Core;
 pub use writing::write_core;

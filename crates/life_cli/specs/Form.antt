@@ -31,8 +31,8 @@ made_geometry groups blocks ring = record {
 abbrev pub IsMade : Geometry → Type 0
 IsMade g = IsGeometry g × (g ≡ made_geometry g.groups g.blocks g.ring)
 
--- three words spell it, in decimal without leading zeros
-pub record IsSpelled (g : Geometry) (groups blocks ring : List ℕ) : Type 0 where
+-- three words encode it, in decimal without leading zeros
+pub record IsEncoded (g : Geometry) (groups blocks ring : List ℕ) : Type 0 where
   pub groups_word : groups ≡ decimal g.groups
   pub blocks_word : blocks ≡ decimal g.blocks
   pub ring_word : ring ≡ decimal g.ring

@@ -4,7 +4,7 @@ ghost use Rattle.std.specs.Prelude.{◌≡◌, ◌↔◌, ◌<◌, ◌^◌, ℕ,
 ghost use Rattle.std.specs.Fmt.{decimal};
 ghost use Rattle.geometry.specs.declared.shape.Geometry.{Geometry};
 ghost use Rattle.geometry.specs.Shape.{IsGeometry};
-ghost use Rattle.life_cli.specs.Form.{IsForm, IsMake, IsNoForm, IsPath, IsSpelled, IsSteps, made_geometry};
+ghost use Rattle.life_cli.specs.Form.{IsForm, IsMake, IsNoForm, IsPath, IsEncoded, IsSteps, made_geometry};
 
 use geometry::Geometry;
 use life_limits::{MAX_BLOCKS, MAX_GROUPS, MAX_RING, MIN_BLOCKS, MIN_RING, VERSION};
@@ -57,10 +57,10 @@ fn is_within_limits(groups: u32, blocks: u32, ring: u32) -> bool
         && ring <= MAX_RING
 }
 
-/// The geometry that these three words spell.
+/// The geometry that these three words encode.
 fn read_geometry(groups: &str, blocks: &str, ring: &str) -> Option<Geometry>
-    ensures found { IfSome result (λ g. IsSpelled g groups.now blocks.now ring.now) }
-    ensures only { (g : Geometry) → IsSpelled g groups.now blocks.now ring.now → result ≡ Some g }
+    ensures found { IfSome result (λ g. IsEncoded g groups.now blocks.now ring.now) }
+    ensures only { (g : Geometry) → IsEncoded g groups.now blocks.now ring.now → result ≡ Some g }
 {
     let groups = read_small(groups)?;
     let blocks = read_small(blocks)?;

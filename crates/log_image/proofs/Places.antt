@@ -7,7 +7,7 @@ use Rattle.byteorder.specs.Endian.{big_bytes}
 use Rattle.life_bytes.specs.Fields.{field}
 use Rattle.life_bytes.specs.TableLaws.{number_at}
 use Rattle.log_record.specs.declared.record.LogRecord.{LogRecord}
-use Rattle.log_record.specs.Spelling.{IsRecord, payload, sector_at, sector_count, stamps}
+use Rattle.log_record.specs.Encoding.{IsRecord, payload, sector_at, sector_count, stamps}
 
 -- the sectors of a record
 abbrev pub count_of : LogRecord → ℕ

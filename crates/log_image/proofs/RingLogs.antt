@@ -5,7 +5,7 @@ use Rattle.std.proofs.lemmas.List.Elements.{All-push}
 use Rattle.life_bytes.specs.Fields.{field}
 use Rattle.life_bytes.specs.declared.sector.Sector.{Sector}
 use Rattle.log_record.specs.declared.record.LogRecord.{LogRecord}
-use Rattle.log_record.specs.Spelling.{sector_at}
+use Rattle.log_record.specs.Encoding.{sector_at}
 use Rattle.log_record.specs.Whole.{IsWholeAt, at_place}
 use Rattle.log_image.specs.Log.{AreBelow, HasLog, IsChain, IsGroupImage, IsLast, IsLogTo, Log, empty_log, end_of, next_of}
 use Rattle.log_image.specs.Step.{cover_of, covered, with_record}

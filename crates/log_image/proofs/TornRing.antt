@@ -5,7 +5,7 @@ use Rattle.std.proofs.lemmas.Nat.{mod_below}
 use Rattle.life_bytes.specs.Fields.{field}
 use Rattle.life_bytes.specs.declared.sector.Sector.{Sector}
 use Rattle.log_record.specs.declared.record.LogRecord.{LogRecord}
-use Rattle.log_record.specs.Spelling.{IsRecord, FitsFields, sector_at, sector_count}
+use Rattle.log_record.specs.Encoding.{IsRecord, FitsFields, sector_at, sector_count}
 use Rattle.log_record.specs.Whole.{IsWholeAt, at_place}
 use Rattle.log_image.specs.Log.{AreBelow, end_of}
 use Rattle.log_image.proofs.Places.{count_of, some_sector, turn_apart, own_position, first_position}

@@ -9,7 +9,7 @@ use Rattle.life_bytes.specs.declared.sector.Sector.{Sector}
 use Rattle.disk_model.specs.Disk.{Cell, IsImage, as_read, written}
 use Rattle.disk_model.specs.DiskLaws.{IsTorn, IsTorn-from_image, as_read-written, length-as_read, length-torn, length-written}
 use Rattle.log_record.specs.declared.record.LogRecord.{LogRecord}
-use Rattle.log_record.specs.Spelling.{sector_at, spelled}
+use Rattle.log_record.specs.Encoding.{sector_at, encoded}
 use Rattle.log_image.specs.Overlay.{images_of, newest}
 use Rattle.log_image.specs.Step.{IsLogged, IsPartlyHome, IsPartlyLogged, IsPlaceOf, place_of}
 use Rattle.log_image.specs.Writes.{first_part, rest_part}
@@ -131,22 +131,22 @@ place_high ring position i high low =
     ap (λ (p : ℕ). p % ring) e ∙ mul-add-mod_self_left ring (position / ring) (ring + (position % ring + i - ring))
     ∙ add-mod_left ring (position % ring + i - ring) ∙ mod-eq_of_lt low
 
-length-all : (item : LogRecord) → length (spelled item) ≡ count_of item
-unfolding spelled
+length-all : (item : LogRecord) → length (encoded item) ≡ count_of item
+unfolding encoded
 length-all item = length-map-range_with_len (sector_at item) 0 (count_of item)
 
-get_or-all : (item : LogRecord) (i : ℕ) (d : Sector) → i < count_of item → get_or (spelled item) i d ≡ sector_at item i
-unfolding spelled
+get_or-all : (item : LogRecord) (i : ℕ) (d : Sector) → i < count_of item → get_or (encoded item) i d ≡ sector_at item i
+unfolding encoded
 get_or-all item i d within = get_or-map-range_with_len (sector_at item) 0 (count_of item) i i d within (omega arith)
 
 get_or-first : (ring : ℕ) (item : LogRecord) (i : ℕ) (d : Sector) → i < ring - item.position % ring → i < count_of item
     → get_or (first_part ring item) i d ≡ sector_at item i
-get_or-first ring item i d low within = get_or-take (ring - item.position % ring) (spelled item) i d low ∙ get_or-all item i d within
+get_or-first ring item i d low within = get_or-take (ring - item.position % ring) (encoded item) i d low ∙ get_or-all item i d within
 
 get_or-rest : (ring : ℕ) (item : LogRecord) (j i : ℕ) (d : Sector) → ring - item.position % ring + j ≡ i → i < count_of item
     → get_or (rest_part ring item) j d ≡ sector_at item i
 get_or-rest ring item j i d e within =
-    get_or-drop (ring - item.position % ring) (spelled item) j d ∙ ap (λ (k : ℕ). get_or (spelled item) k d) e ∙ get_or-all item i d within
+    get_or-drop (ring - item.position % ring) (encoded item) j d ∙ ap (λ (k : ℕ). get_or (encoded item) k d) e ∙ get_or-all item i d within
 
 -- what is known of a record's two parts
 record HasParts (anchor ring : ℕ) (item : LogRecord) : Type 0 where
@@ -161,8 +161,8 @@ has_parts anchor ring item some few =
     record {
       low = mod_below item.position ring some;
       few = few;
-      first = length-take (ring - item.position % ring) (spelled item) ∙ ap (λ (n : ℕ). min (ring - item.position % ring) n) all;
-      rest = length-drop (ring - item.position % ring) (spelled item) ∙ ap (λ (n : ℕ). n - (ring - item.position % ring)) all;
+      first = length-take (ring - item.position % ring) (encoded item) ∙ ap (λ (n : ℕ). min (ring - item.position % ring) n) all;
+      rest = length-drop (ring - item.position % ring) (encoded item) ∙ ap (λ (n : ℕ). n - (ring - item.position % ring)) all;
     }
 
 -- the place of the i-th sector, in the first part or in the rest
@@ -350,9 +350,9 @@ home_image cells image anchor home records sector low is written_image =
     )
 
 pub record_straight : (ring : ℕ) (item : LogRecord) → item.position % ring + count_of item ≤ ring
-    → (first_part ring item ≡ spelled item) × (rest_part ring item ≡ [])
+    → (first_part ring item ≡ encoded item) × (rest_part ring item ≡ [])
 record_straight ring item fits =
     let all = length-all item in (
-      take_all (ring - item.position % ring) (spelled item) (omega arith),
-      drop_all (ring - item.position % ring) (spelled item) (omega arith),
+      take_all (ring - item.position % ring) (encoded item) (omega arith),
+      drop_all (ring - item.position % ring) (encoded item) (omega arith),
     )

@@ -6,7 +6,7 @@ use Rattle.std.proofs.lemmas.List.{get_or_default}
 use Rattle.life_bytes.specs.Fields.{field}
 use Rattle.life_bytes.specs.declared.sector.Sector.{Sector}
 use Rattle.log_record.specs.declared.record.LogRecord.{LogRecord}
-use Rattle.log_record.specs.Spelling.{IsRecord, FitsFields, sector_at}
+use Rattle.log_record.specs.Encoding.{IsRecord, FitsFields, sector_at}
 use Rattle.log_record.specs.Whole.{IsWholeAt, at_place}
 use Rattle.log_image.specs.Anchor.{HasAnchor}
 use Rattle.log_image.specs.Log.{AreBelow, HasLog, IsLog, Log, end_of, groups_part, ring_part}

@@ -15,7 +15,7 @@ anchor_rows position next =
     ∷ number 16 8 next
     ∷ []
 
--- the sector that spells these numbers: its fields over zeros, and the checksum at byte 4
+-- the sector that encodes these numbers: its fields over zeros, and the checksum at byte 4
 unfoldable pub anchor_sector : ℕ → ℕ → Sector
 anchor_sector position next = record { bytes = sealed 4 (placed (anchor_rows position next) blank) }
 

@@ -3,7 +3,7 @@ use Rattle.std.specs.Prelude.{ℕ, ◌≡◌, ◌≤◌, ◌<◌, ◌+◌, ◌-�
 use Rattle.std.specs.List.{All}
 use Rattle.life_bytes.specs.declared.sector.Sector.{Sector}
 use Rattle.log_record.specs.declared.record.LogRecord.{LogRecord}
-use Rattle.log_record.specs.Spelling.{IsRecord, FitsFields, sector_at, sector_count}
+use Rattle.log_record.specs.Encoding.{IsRecord, FitsFields, sector_at, sector_count}
 use Rattle.log_image.specs.Overlay.{newest, images_of}
 use Rattle.log_image.specs.Log.{Log, IsGroupImage, end_of, next_of}
 

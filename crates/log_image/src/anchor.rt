@@ -34,7 +34,7 @@ fn is_anchor_of(anchor: &Anchor, sector: &Sector) -> bool
     again == *sector
 }
 
-/// Reads an anchor: `None` exactly where the sector spells none. Whether its numbers fit the ring is not looked at.
+/// Reads an anchor: `None` exactly where the sector encodes none. Whether its numbers fit the ring is not looked at.
 pub fn read_anchor(sector: &Sector) -> Option<Anchor>
     ensures found { IfSome result (λ a. sector.now ≡ anchor_sector a.position a.next_commit) }
     ensures only { (position next : ℕ) → position < 2 ^ 64 → next < 2 ^ 64 → sector.now ≡ anchor_sector position next

@@ -3,7 +3,7 @@ ghost use Rattle.std.specs.Prelude.{ℕ, ◌≡◌, ◌≤◌, ◌<◌, ◌+◌,
 ghost use Rattle.life_bytes.specs.declared.sector.Sector.{Sector};
 ghost use Rattle.disk_model.specs.Disk.{Cell, IsImage, as_read, written};
 ghost use Rattle.log_record.specs.declared.record.LogRecord.{LogRecord};
-ghost use Rattle.log_record.specs.Spelling.{sector_count, spelled};
+ghost use Rattle.log_record.specs.Encoding.{sector_count, encoded};
 ghost use Rattle.log_image.specs.Overlay.{images_of, newest};
 ghost use Rattle.log_image.specs.Step.{IsLogged, IsPartlyHome, IsPartlyLogged, place_of};
 ghost use Rattle.log_image.specs.Writes.{first_part, rest_part};
@@ -27,7 +27,7 @@ pub fn disk_writes()
         → IsLogged anchor ring item (as_read cells) (as_read (written (anchor + 1) (rest_part ring item)
         (written (place_of anchor ring item.position) (first_part ring item) cells))) }
     ensures straight { (ring : ℕ) (item : LogRecord) → item.position % ring + sector_count (length item.images) ≤ ring
-        → (first_part ring item ≡ spelled item) × (rest_part ring item ≡ []) }
+        → (first_part ring item ≡ encoded item) × (rest_part ring item ≡ []) }
     ensures home { (cells : List Cell) (image : List Sector) (anchor home : ℕ) (records : List LogRecord) (sector : Sector)
         → home < anchor → newest home (images_of records) ≡ Some sector → IsImage (written home (sector ∷ []) cells) image
         → (old : List Sector) × IsImage cells old × IsPartlyHome anchor records old image }

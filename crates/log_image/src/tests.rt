@@ -3,7 +3,7 @@ use life_bytes::Sector;
 use std::test::Fail;
 
 #[test]
-fn anchors_are_spelled_and_read(rt: HostRuntime) -> Result<(), Fail> {
+fn anchors_are_encoded_and_read(rt: HostRuntime) -> Result<(), Fail> {
     // The position, the next commit number, and the first bytes with the checksum.
     let rows = [
         (

@@ -5,8 +5,8 @@ use Rattle.std.proofs.lemmas.List.{take_at, drop_at}
 use Rattle.byteorder.specs.Numbers.{big_number-reads_back}
 use Rattle.life_bytes.specs.Fields.{field}
 use Rattle.log_record.specs.declared.image.Image.{Image}
-use Rattle.log_record.specs.Spelling.{FitsImage, header, image_bytes}
-use Rattle.log_record.proofs.Spelled.{length-image_bytes}
+use Rattle.log_record.specs.Encoding.{FitsImage, header, image_bytes}
+use Rattle.log_record.proofs.Encoded.{length-image_bytes}
 
 -- each number of a header is read where it stands
 pub header_tail : (t f c m : ℕ) → t < 2 ^ 64 → field 8 0 (header t f c m) ≡ t

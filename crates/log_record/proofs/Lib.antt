@@ -1,5 +1,5 @@
 pub mod Pieces
-pub mod Spelled
+pub mod Encoded
 pub mod Window
 pub mod Images
 pub mod Whole

@@ -12,8 +12,8 @@ use Rattle.log_record.specs.Whole.{at_place, IsWholeAt}
 use Rattle.log_record.specs.declared.read.Header.{Header}
 use Rattle.log_record.specs.Outline.{HasOutline, HasRoom, IsHeader, IsStamped, filling, header_bytes}
 use Rattle.log_record.specs.Payload.{payload_of, stamps_of, AreSectors, HasStamps, window, HoldsPayload}
-use Rattle.log_record.specs.Spelling.{FitsImage, IsRecord, FitsFields, header, image_bytes, payload, sector_at, sector_count, spelled, stamps}
-use Rattle.log_record.proofs.Spelled.{header_of, length-header, length-images, length-stamps, part_at, spelled_from_parts}
+use Rattle.log_record.specs.Encoding.{FitsImage, IsRecord, FitsFields, header, image_bytes, payload, sector_at, sector_count, encoded, stamps}
+use Rattle.log_record.proofs.Encoded.{header_of, length-header, length-images, length-stamps, part_at, encoded_from_parts}
 use Rattle.log_record.proofs.Images.{header_tail, header_first, header_commits, header_images, images-injective}
 use Rattle.log_record.proofs.Window.{none, length-window, get_or-window, whole_window, stamps_of_window, HoldsPayload-append}
 
@@ -186,9 +186,9 @@ whole_zeros ring position item bytes is size held =
 pub any_default : (ring : List Sector) (position : ℕ) (d e : Sector) → 0 < length ring → at_place ring position d ≡ at_place ring position e
 any_default ring position d e some = get_or_default ring (position % length ring) d e (omega arith)
 
-pub get_or-spelled : (item : LogRecord) (i : ℕ) (d : Sector) → i < count_of item → get_or (spelled item) i d ≡ sector_at item i
-unfolding spelled
-get_or-spelled item i d within = get_or-map-range_with_len (sector_at item) 0 (count_of item) i i d within (omega arith)
+pub get_or-encoded : (item : LogRecord) (i : ℕ) (d : Sector) → i < count_of item → get_or (encoded item) i d ≡ sector_at item i
+unfolding encoded
+get_or-encoded item i d within = get_or-map-range_with_len (sector_at item) 0 (count_of item) i i d within (omega arith)
 
 -- a record whose sectors have its stamps and its payload is whole
 pub whole_from_parts : (ring : List Sector) (item : LogRecord) → IsRecord item → FitsFields item
@@ -202,14 +202,14 @@ whole_from_parts ring item form fits room whole stamped held =
     Rattle.log_record.proofs.Pieces.length-payload_of w whole ∙ ap (λ (k : ℕ). 496 * k) (length-window ring item.position (count_of item)) in
     let same : payload_of w ≡ payload item =
     sym (take_all (length (payload item)) (payload_of w) (omega arith)) ∙ held (count_of item) whole (omega arith) in
-    let is : w ≡ spelled item = spelled_from_parts w item (length-window ring item.position (count_of item)) whole stamped same in
+    let is : w ≡ encoded item = encoded_from_parts w item (length-window ring item.position (count_of item)) whole stamped same in
     record {
       begins = refl;
       form = form;
       fits = fits;
       room = room;
       sectors = λ i d h. any_default ring (item.position + i) d none (omega arith) ∙ sym (get_or-window ring item.position (count_of item) i none h)
-          ∙ ap (λ (l : List Sector). get_or l i none) is ∙ get_or-spelled item i none h;
+          ∙ ap (λ (l : List Sector). get_or l i none) is ∙ get_or-encoded item i none h;
     }
 
 -- a whole record's header, as its bytes were read

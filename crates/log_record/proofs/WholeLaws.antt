@@ -11,15 +11,15 @@ use Rattle.log_record.specs.declared.image.Image.{Image}
 use Rattle.log_record.specs.declared.record.LogRecord.{LogRecord}
 use Rattle.log_record.specs.Whole.{at_place, IsWholeAt}
 use Rattle.log_record.specs.Payload.{payload_of, window}
-use Rattle.log_record.specs.Spelling.{IsRecord, FitsFields, image_bytes, payload, sector_at, sector_count, spelled, stamps}
-use Rattle.log_record.proofs.Spelled.{header_of}
+use Rattle.log_record.specs.Encoding.{IsRecord, FitsFields, image_bytes, payload, sector_at, sector_count, encoded, stamps}
+use Rattle.log_record.proofs.Encoded.{header_of}
 use Rattle.log_record.proofs.Images.{images-injective}
 use Rattle.log_record.proofs.Window.{none}
-use Rattle.log_record.proofs.Whole.{HasHeader, count_of, get_or-spelled, payload_header, payload_images, same_header, sector_part, whole_payload, whole_stamps}
+use Rattle.log_record.proofs.Whole.{HasHeader, count_of, get_or-encoded, payload_header, payload_images, same_header, sector_part, whole_payload, whole_stamps}
 
-pub length-spelled : (item : LogRecord) → length (spelled item) ≡ sector_count (length item.images)
-unfolding spelled
-length-spelled item = length-map-range_with_len (sector_at item) 0 (count_of item)
+pub length-encoded : (item : LogRecord) → length (encoded item) ≡ sector_count (length item.images)
+unfolding encoded
+length-encoded item = length-map-range_with_len (sector_at item) 0 (count_of item)
 
 -- where a record is whole behind the first sector of another, the first parts of their payloads are the same
 same_first_part : (ring : List Sector) (position : ℕ) (a b : LogRecord) → ((d : Sector) → at_place ring (position + 0) d ≡ sector_at a 0)
@@ -67,16 +67,16 @@ whole-unique ring position a b isa isb =
     ∙ ap (λ (l : List Image). of b.position b.tail b.first b.commits l) images
 
 -- a record that stands in its places, in a ring that has room for it, is whole
-pub whole_from_spelled : (ring : List Sector) (item : LogRecord) → IsRecord item → FitsFields item
+pub whole_from_encoded : (ring : List Sector) (item : LogRecord) → IsRecord item → FitsFields item
     → item.position + sector_count (length item.images) - item.tail ≤ length ring
-    → ((i : ℕ) (d : Sector) → i < length (spelled item) → at_place ring (item.position + i) d ≡ get_or (spelled item) i d)
+    → ((i : ℕ) (d : Sector) → i < length (encoded item) → at_place ring (item.position + i) d ≡ get_or (encoded item) i d)
     → IsWholeAt ring item.position item
-whole_from_spelled ring item form fits room stands = record {
+whole_from_encoded ring item form fits room stands = record {
   begins = refl;
   form = form;
   fits = fits;
   room = room;
-  sectors = λ i d h. stands i d (omega (arith, length-spelled item)) ∙ get_or-spelled item i d h;
+  sectors = λ i d h. stands i d (omega (arith, length-encoded item)) ∙ get_or-encoded item i d h;
 }
 
 -- only the sectors in a record's places tell whether it is whole

@@ -11,8 +11,8 @@ use Rattle.life_bytes.specs.declared.sector.Sector.{Sector}
 use Rattle.log_record.specs.declared.image.Image.{Image}
 use Rattle.log_record.specs.Whole.{at_place}
 use Rattle.log_record.specs.Payload.{payload_of, stamps_of, AreSectors, HasStamps, window, HoldsPayload}
-use Rattle.log_record.specs.Spelling.{FitsImage, image_bytes, stamps}
-use Rattle.log_record.proofs.Spelled.{length-images, part_at}
+use Rattle.log_record.specs.Encoding.{FitsImage, image_bytes, stamps}
+use Rattle.log_record.proofs.Encoded.{length-images, part_at}
 
 abbrev pub none : Sector
 none = record { bytes = [] }

@@ -1,4 +1,4 @@
-pub mod Spelling
+pub mod Encoding
 pub mod Whole
 pub mod Payload
 pub mod Outline

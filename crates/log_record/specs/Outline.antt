@@ -3,7 +3,7 @@ use Rattle.std.specs.Prelude.{ℕ, ◌≡◌, ◌<◌, ◌≤◌, ◌+◌, ◌-�
 use Rattle.life_limits.specs.declared.TheConstants.{MAX_IMAGES}
 use Rattle.life_bytes.specs.declared.sector.Sector.{Sector}
 use Rattle.log_record.specs.declared.read.Header.{Header}
-use Rattle.log_record.specs.Spelling.{header, sector_count, stamps}
+use Rattle.log_record.specs.Encoding.{header, sector_count, stamps}
 use Rattle.log_record.specs.Whole.{at_place}
 use Rattle.log_record.specs.Payload.{stamps_of, AreSectors, window, HoldsPayload}
 

@@ -2,7 +2,7 @@
 use Rattle.std.specs.Prelude.{ℕ, ◌+◌, ◌*◌, ◌<◌, ◌≤◌, ◌≡◌, List, [], length, map, take, drop, slice_index_or}
 use Rattle.std.specs.List.{flat_map, range_with_len, All}
 use Rattle.life_bytes.specs.declared.sector.Sector.{Sector}
-use Rattle.log_record.specs.Spelling.{stamps}
+use Rattle.log_record.specs.Encoding.{stamps}
 use Rattle.log_record.specs.Whole.{at_place}
 
 -- the bytes of a sector's stamps

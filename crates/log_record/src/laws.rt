@@ -2,7 +2,7 @@
 ghost use Rattle.std.specs.Prelude.{◌≡◌, ◌≤◌, ◌<◌, ◌+◌, ◌-◌, ℕ, List, length, slice_index_or};
 ghost use Rattle.life_bytes.specs.Fields.{field};
 ghost use Rattle.life_bytes.specs.declared.sector.Sector.{Sector};
-ghost use Rattle.log_record.specs.Spelling.{FitsFields, IsRecord, sector_at, sector_count, spelled};
+ghost use Rattle.log_record.specs.Encoding.{FitsFields, IsRecord, sector_at, sector_count, encoded};
 ghost use Rattle.log_record.specs.Whole.{IsWholeAt, at_place};
 ghost use Rattle.log_record.specs.declared.record.LogRecord.{LogRecord};
 
@@ -14,7 +14,7 @@ pub fn whole_records()
         → IsWholeAt ring position a → IsWholeAt ring position b → a ≡ b }
     ensures written { (ring : List Sector) (item : LogRecord) → IsRecord item → FitsFields item
         → item.position + sector_count (length item.images) - item.tail ≤ length ring
-        → ((i : ℕ) (d : Sector) → i < length (spelled item) → at_place ring (item.position + i) d ≡ slice_index_or (spelled item) i d)
+        → ((i : ℕ) (d : Sector) → i < length (encoded item) → at_place ring (item.position + i) d ≡ slice_index_or (encoded item) i d)
         → IsWholeAt ring item.position item }
     ensures places { (ring other : List Sector) (position : ℕ) (item : LogRecord) → length other ≡ length ring
         → ((i : ℕ) (d : Sector) → i < sector_count (length item.images) → at_place other (position + i) d ≡ at_place ring (position + i) d)

@@ -1,4 +1,4 @@
-//! The records of the log: sector images that become durable together, as the log's sectors spell them.
+//! The records of the log: sector images that become durable together, as the log's sectors encode them.
 #![tactic(auto)]
 
 mod image;

@@ -7,7 +7,7 @@ ghost use Rattle.life_bytes.specs.Fields.{AreBytes};
 ghost use Rattle.life_bytes.specs.declared.sector.Sector.{Sector};
 ghost use Rattle.log_record.specs.Outline.{HasOutline, HasRoom, IsHeader, IsStamped, filling, header_bytes};
 ghost use Rattle.log_record.specs.Payload.{AreSectors, HoldsPayload, stamps_of, window};
-ghost use Rattle.log_record.specs.Spelling.{FitsImage, header, image_bytes, sector_count, stamps};
+ghost use Rattle.log_record.specs.Encoding.{FitsImage, header, image_bytes, sector_count, stamps};
 ghost use Rattle.log_record.specs.Whole.{IsWholeAt, NoneWholeAt, at_place};
 
 use crate::image::{Image, ImageList};
@@ -55,7 +55,7 @@ fn copy_payload(ring: &[Sector], position: u64, at: usize, into: &mut [u8])
     }
 }
 
-/// The header that is spelled by the first bytes of a payload.
+/// The header that is encoded by the first bytes of a payload.
 fn parse_header(bytes: &[u8; HEADER]) -> Option<Header>
     ensures some { IfSome result (λ h. bytes.now ≡ header_bytes h) }
     ensures form { IfSome result IsHeader }
@@ -70,8 +70,8 @@ fn parse_header(bytes: &[u8; HEADER]) -> Option<Header>
     if found.images > MAX_IMAGES {
         return None;
     }
-    let spelled = header_bytes(found.tail, found.first, found.commits, found.images);
-    if *bytes == spelled { Some(found) } else { None }
+    let encoded = header_bytes(found.tail, found.first, found.commits, found.images);
+    if *bytes == encoded { Some(found) } else { None }
 }
 
 /// Whether a record with this header has room in a ring of so many sectors.

@@ -1,7 +1,7 @@
 // A record of the log.
 ghost use Rattle.std.specs.Prelude.{◌≡◌, ◌≤◌};
 ghost use Rattle.life_limits.specs.declared.TheConstants.{MAX_IMAGES};
-ghost use Rattle.log_record.specs.Spelling.{sector_count};
+ghost use Rattle.log_record.specs.Encoding.{sector_count};
 
 use crate::image::ImageList;
 

@@ -1,5 +1,5 @@
 ghost use Rattle.std.specs.Prelude.{◌≡◌, ◌≤◌, ◌<◌, ◌+◌, ◌^◌, IfOk, length};
-ghost use Rattle.log_record.specs.Spelling.{IsRecord};
+ghost use Rattle.log_record.specs.Encoding.{IsRecord};
 
 use super::*;
 use life_bytes::Sector;
@@ -52,7 +52,7 @@ fn sizes_of_records(rt: HostRuntime) {
 }
 
 #[test]
-fn a_record_is_spelled(rt: HostRuntime) -> Result<(), Fail> {
+fn a_record_is_encoded(rt: HostRuntime) -> Result<(), Fail> {
     let sectors = record_bytes(rt.alloc(), &sample(rt.alloc())?)?;
     assert_eq!(rt; sectors.len(), 4);
     let head = [

@@ -6,7 +6,7 @@ ghost use Rattle.life_bytes.specs.Fields.{with_piece, AreBytes};
 ghost use Rattle.life_bytes.specs.declared.sector.Sector.{Sector};
 ghost use Rattle.log_record.specs.Payload.{payload_of, stamps_of, AreSectors, HasStamps};
 ghost use Rattle.log_record.specs.Numbers.{record_of};
-ghost use Rattle.log_record.specs.Spelling.{FitsImage, IsRecord, FitsFields, header, image_bytes, sector_count, spelled, stamps};
+ghost use Rattle.log_record.specs.Encoding.{FitsImage, IsRecord, FitsFields, header, image_bytes, sector_count, encoded, stamps};
 
 use crate::image::Image;
 use crate::record::{HEADER, IMAGE, LogRecord, PAYLOAD, RecordNumbers, STAMPS, record_sectors};
@@ -109,7 +109,7 @@ fn put_image(into: &mut [Sector], at: usize, image: &Image)
 pub fn fill_images(numbers: &RecordNumbers, images: &[Image], into: &mut [Sector])
     requires form { IsRecord (record_of numbers.now images.now) }
     requires room { length into.old ≡ sector_count (length images.now) }
-    ensures spelled { into.new ≡ spelled (record_of numbers.now images.now) }
+    ensures encoded { into.new ≡ encoded (record_of numbers.now images.now) }
     ensures fits { FitsFields (record_of numbers.now images.now) }
 {
     stamp_all(into, numbers.position);
@@ -131,7 +131,7 @@ pub fn fill_images(numbers: &RecordNumbers, images: &[Image], into: &mut [Sector
 pub fn fill_record(item: &LogRecord, into: &mut [Sector])
     requires form { IsRecord item.now }
     requires room { length into.old ≡ sector_count (length item.now.images) }
-    ensures spelled { into.new ≡ spelled item.now }
+    ensures encoded { into.new ≡ encoded item.now }
     ensures fits { FitsFields item.now }
 {
     let numbers = RecordNumbers {
@@ -146,7 +146,7 @@ pub fn fill_record(item: &LogRecord, into: &mut [Sector])
 /// The sectors of a record.
 pub fn record_bytes(alloc: Global, item: &LogRecord) -> Result<Vec<Sector>, NoMemory>
     requires { IsRecord item.now }
-    ensures spelled { IfOk result (λ sectors. sectors.items ≡ spelled item.now) }
+    ensures encoded { IfOk result (λ sectors. sectors.items ≡ encoded item.now) }
     ensures fits { OnOk result (FitsFields item.now) }
 {
     let count = record_sectors(item.images.len() as u32);

@@ -1,7 +1,7 @@
 -- What whole jobs move, from their steps.
 use Rattle.std.proofs.Common.{Bool, Result, ◌≡◌, ◌+◌, ◌-◌, ◌<◌, ℕ, List, length, refl, sym, ap, ◌∙◌, subst, inr, arith, Ok, Err}
 use Rattle.disk_model.specs.Disk.{Arming, Cell, IsAfterWrites}
-use Rattle.log_record.specs.Spelling.{sector_count}
+use Rattle.log_record.specs.Encoding.{sector_count}
 use Rattle.log_record.specs.declared.image.Image.{Image}
 use Rattle.log_store.specs.declared.fault.Progress.{Progress}
 use Rattle.log_store.specs.declared.fault.Progress.TheVariants.{Ended, More}

@@ -7,7 +7,7 @@ use Rattle.std.proofs.lemmas.List.Elements.{All-head, All-tail, All-take, All-ni
 use Rattle.disk_model.specs.Disk.{Cell}
 use Rattle.log_record.specs.declared.image.Image.{Image}
 use Rattle.log_record.specs.declared.image.Commit.{Commit}
-use Rattle.log_record.specs.Spelling.{FitsFields, sector_count}
+use Rattle.log_record.specs.Encoding.{FitsFields, sector_count}
 use Rattle.log_image.specs.Log.{IsGroupImage}
 use Rattle.log_batch.specs.Newest.{IsBatch, IsCommit, commit_images}
 use Rattle.log_batch.specs.NewestLaws.{newest_is_put_all, put_all_is_newest}

@@ -4,7 +4,7 @@ use Rattle.life_bytes.specs.declared.sector.Sector.{Sector}
 use Rattle.disk_model.specs.Disk.{Arming, Cell, IsPartlyWritten, after_write, flushed, written}
 use Rattle.log_record.specs.declared.image.Image.{Image}
 use Rattle.log_record.specs.declared.image.Commit.{Commit}
-use Rattle.log_record.specs.Spelling.{sector_count, spelled}
+use Rattle.log_record.specs.Encoding.{sector_count, encoded}
 use Rattle.log_image.specs.Step.{place_of}
 use Rattle.log_image.specs.Writes.{first_part, rest_part}
 use Rattle.log_store.specs.declared.fault.Progress.{Progress}
@@ -43,7 +43,7 @@ home_call [] false last = last
 
 -- making room ends with a cover, of one sector at the head
 abbrev pub clear_call : State → DeviceCall
-clear_call s = home_call s.dirty s.unflushed (write (place_of s.anchor s.ring s.head) (spelled (cover_record s)))
+clear_call s = home_call s.dirty s.unflushed (write (place_of s.anchor s.ring s.head) (encoded (cover_record s)))
 
 -- whether a record of so many images has room, with a sector to spare for a cover
 abbrev pub has_room : State → ℕ → Bool

@@ -2,7 +2,7 @@
 use Rattle.std.specs.Prelude.{◌≤◌, ◌<◌, ◌+◌, false, true, List, length, drop}
 use Rattle.disk_model.specs.Disk.{Cell}
 use Rattle.log_record.specs.declared.image.Image.{Image}
-use Rattle.log_record.specs.Spelling.{sector_count}
+use Rattle.log_record.specs.Encoding.{sector_count}
 use Rattle.log_batch.specs.Put.{put_all}
 use Rattle.log_store.specs.declared.store.Stage.TheVariants.{Free}
 use Rattle.log_store.specs.State.{State}

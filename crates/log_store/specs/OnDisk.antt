@@ -6,7 +6,7 @@ use Rattle.disk_model.specs.Disk.{Cell, IsImage, as_read, written}
 use Rattle.log_record.specs.declared.image.Image.{Image}
 use Rattle.log_record.specs.declared.image.Commit.{Commit}
 use Rattle.log_record.specs.declared.record.LogRecord.{LogRecord}
-use Rattle.log_record.specs.Spelling.{spelled}
+use Rattle.log_record.specs.Encoding.{encoded}
 use Rattle.log_image.specs.Log.{AreBelow, IsLog, Log, groups_part, replayed, ring_part}
 use Rattle.log_image.specs.Overlay.{images_of, newest, overlaid}
 use Rattle.log_image.specs.Step.{AreHome, GoesOn, place_of}
@@ -89,7 +89,7 @@ fully_written s before = written (s.anchor + 1) (rest_part s.ring (item_of s)) (
 
 -- the disk after the write of the cover
 abbrev pub cover_written : State → List Cell → List Cell
-cover_written s before = written (place_of s.anchor s.ring s.head) (spelled (cover_record s)) before
+cover_written s before = written (place_of s.anchor s.ring s.head) (encoded (cover_record s)) before
 
 -- a cover may be written where every logged sector is home and flushed
 pub record Covers (s : State) (before : List Cell) : Type 0 where

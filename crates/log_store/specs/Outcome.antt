@@ -2,7 +2,7 @@
 use Rattle.std.specs.Prelude.{ℕ, ◌≡◌, ◌≢◌, ◌⊎◌, ◌≤◌, ◌<◌, ◌+◌, ◌-◌, ◌*◌, ◌^◌, nat_lt, if◌then◌else◌, false, [], length, Result, Ok, Err, Option, Some, None}
 use Rattle.life_limits.specs.declared.TheConstants.{MAX_RECORD_SECTORS}
 use Rattle.life_ports.specs.Faults.{Rose}
-use Rattle.log_record.specs.Spelling.{sector_count}
+use Rattle.log_record.specs.Encoding.{sector_count}
 use Rattle.log_store.specs.declared.fault.Progress.{Progress}
 use Rattle.log_store.specs.declared.fault.Progress.TheVariants.{More, Ended}
 use Rattle.log_store.specs.declared.fault.StoreFault.{StoreFault}

@@ -6,7 +6,7 @@ use Rattle.life_bytes.specs.declared.sector.Sector.{Sector}
 use Rattle.disk_model.specs.Disk.{Cell, Elapses}
 use Rattle.log_record.specs.declared.image.Commit.{Commit}
 use Rattle.log_record.specs.declared.image.Image.{Image}
-use Rattle.log_record.specs.Spelling.{FitsFields, sector_count, spelled}
+use Rattle.log_record.specs.Encoding.{FitsFields, sector_count, encoded}
 use Rattle.log_image.specs.Log.{IsGroupImage}
 use Rattle.log_image.specs.Overlay.{overlaid}
 use Rattle.log_batch.specs.Newest.{IsCommit, commit_images}
@@ -25,7 +25,7 @@ pub record IsInFlight (s : State) (sectors : List Sector) (count : ℕ) : Type 0
   pub batch : IsTaken s.list s.taken s.batch
   pub fits : FitsFields (item_of s)
   pub size : count ≡ sector_count (length s.batch)
-  pub spelled : take count sectors ≡ spelled (item_of s)
+  pub encoded : take count sectors ≡ encoded (item_of s)
   pub room : (s.head - s.tail) + count + 1 ≤ s.ring
   pub end : s.head + count ≤ 2 ^ 63
 

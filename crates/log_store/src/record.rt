@@ -3,7 +3,7 @@ ghost use Rattle.std.specs.Prelude.{◌≡◌, ◌≤◌, ◌<◌, ◌+◌, ◌-
 ghost use Rattle.std.specs.List.{All};
 ghost use Rattle.std.specs.VecDeque.{deque_capacity};
 ghost use Rattle.log_record.specs.Numbers.{record_of};
-ghost use Rattle.log_record.specs.Spelling.{FitsFields, IsRecord, sector_count, spelled};
+ghost use Rattle.log_record.specs.Encoding.{FitsFields, IsRecord, sector_count, encoded};
 ghost use Rattle.log_batch.specs.Newest.{IsBatch, IsCommit};
 ghost use Rattle.log_store.specs.declared.store.Job.TheVariants.{Force, Idle};
 ghost use Rattle.log_store.specs.declared.store.Stage.TheVariants.{Cover, Down, Free, Half, Record};
@@ -28,7 +28,7 @@ fn fill_front(into: &mut [Sector], numbers: &RecordNumbers, images: &[Image], co
     requires form { IsRecord (record_of numbers.now images.now) }
     requires size { count ≡ sector_count (length images.now) }
     requires room { count ≤ length into.old }
-    ensures spelled { take count into.new ≡ spelled (record_of numbers.now images.now) }
+    ensures encoded { take count into.new ≡ encoded (record_of numbers.now images.now) }
     ensures fits { FitsFields (record_of numbers.now images.now) }
 {
     fill_images(numbers, images, &mut into[..count]);
@@ -39,7 +39,7 @@ fn fill_buffer(sectors: &mut Vec<Sector>, numbers: &RecordNumbers, images: &[Ima
     requires form { IsRecord (record_of numbers.now images.now) }
     requires size { count ≡ sector_count (length images.now) }
     requires room { count ≤ length sectors.old.items }
-    ensures spelled { take count sectors.new.items ≡ spelled (record_of numbers.now images.now) }
+    ensures encoded { take count sectors.new.items ≡ encoded (record_of numbers.now images.now) }
     ensures fits { FitsFields (record_of numbers.now images.now) }
     ensures length { length sectors.new.items ≡ length sectors.old.items }
 {

@@ -9,7 +9,7 @@ use Rattle.life_bytes.specs.Fields.{field}
 use Rattle.life_bytes.specs.declared.sector.Sector.{Sector}
 use Rattle.log_record.specs.declared.image.Image.{Image}
 use Rattle.log_record.specs.declared.record.LogRecord.{LogRecord}
-use Rattle.log_record.specs.Spelling.{sector_count}
+use Rattle.log_record.specs.Encoding.{sector_count}
 use Rattle.log_record.specs.Whole.{IsWholeAt, NoneWholeAt, at_place}
 use Rattle.log_image.specs.Log.{IsChain, IsGroupImage, IsLast, IsLogTo, Log, end_of, next_of}
 use Rattle.log_image.specs.Overlay.{images_of}

@@ -5,7 +5,7 @@ use Rattle.std.proofs.lemmas.Bool.{cases_eq}
 use Rattle.life_bytes.specs.Fields.{field}
 use Rattle.life_bytes.specs.declared.sector.Sector.{Sector}
 use Rattle.log_record.specs.declared.record.LogRecord.{LogRecord}
-use Rattle.log_record.specs.Spelling.{sector_count}
+use Rattle.log_record.specs.Encoding.{sector_count}
 use Rattle.log_record.specs.Whole.{IsWholeAt, NoneWholeAt, at_place}
 use Rattle.log_image.specs.Log.{HasNoLast, IsLast}
 use Rattle.recovery.specs.Last.{BeginsAt, IsFrom, IsSeen, NoneFrom}

@@ -142,12 +142,12 @@ pub recovers_either : Laws → (base : List Sector) (anchor ring : ℕ) (found :
     → Home base anchor ring found mid → IsBehind ring found start → start.position < MOUNT_LIMIT
     → at ≡ anchor → sector ≡ anchor_sector start.position start.next_commit → (image : List Sector) → IsEither mid at sector image
     → Recovers anchor ring (groups_found anchor base found) found.next_commit image
-recovers_either laws base anchor ring found mid start at sector home behind fits same spelled image (inl old) =
+recovers_either laws base anchor ring found mid start at sector home behind fits same encoded image (inl old) =
     subst (λ (l : List Sector). Recovers anchor ring (groups_found anchor base found) found.next_commit l) (sym old)
     (recovers_partly laws base anchor ring found home.is home.homes mid home.partly)
-recovers_either laws base anchor ring found mid start at sector home behind fits same spelled image (inr put) =
+recovers_either laws base anchor ring found mid start at sector home behind fits same encoded image (inr put) =
     let is : image ≡ set mid anchor (anchor_sector start.position start.next_commit) =
-    put ∙ ap (λ (k : ℕ). set mid k sector) same ∙ ap (λ (s : Sector). set mid anchor s) spelled in
+    put ∙ ap (λ (k : ℕ). set mid k sector) same ∙ ap (λ (s : Sector). set mid anchor s) encoded in
     subst (λ (l : List Sector). Recovers anchor ring (groups_found anchor base found) found.next_commit l) (sym is)
     (recovers_anchored laws base anchor ring found mid start home behind fits)
 
@@ -155,9 +155,9 @@ pub begins_anew : Laws → (base : List Sector) (anchor ring : ℕ) (found : Fou
     → Home base anchor ring found mid → IsBehind ring found start → start.position < MOUNT_LIMIT
     → at ≡ anchor → sector ≡ anchor_sector start.position start.next_commit → HasOneImage cells → as_read cells ≡ set mid at sector
     → BeginsAnew anchor ring (groups_found anchor base found) cells start
-begins_anew laws base anchor ring found mid start at sector cells home behind fits same spelled one reads =
+begins_anew laws base anchor ring found mid start at sector cells home behind fits same encoded one reads =
     let is : as_read cells ≡ set mid anchor (anchor_sector start.position start.next_commit) =
-    reads ∙ ap (λ (k : ℕ). set mid k sector) same ∙ ap (λ (s : Sector). set mid anchor s) spelled in
+    reads ∙ ap (λ (k : ℕ). set mid k sector) same ∙ ap (λ (s : Sector). set mid anchor s) encoded in
     let facts = anchored laws base anchor ring found mid start home behind fits in
     record {
       one = one;

@@ -15,7 +15,7 @@ anchor_of g = g.groups * group_sectors g
 
 -- a sector is a right anchor in front of a ring of so many sectors, with these numbers
 pub record IsStart (sector : Sector) (ring : ℕ) (start : Anchor) : Type 0 where
-  pub spelled : sector ≡ anchor_sector start.position start.next_commit
+  pub encoded : sector ≡ anchor_sector start.position start.next_commit
   pub position : (ring ≤ start.position) × (start.position < 2 ^ 64)
   pub number : (1 ≤ start.next_commit) × (start.next_commit < 2 ^ 64)
 

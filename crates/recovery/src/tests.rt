@@ -1,7 +1,7 @@
 // Recovery over disks in memory, of one group of 64 blocks and a ring of 256 sectors.
 ghost use Rattle.std.specs.Prelude.{◌≡◌, ◌≤◌, ◌+◌, ◌^◌, IfOk, length};
 ghost use Rattle.geometry.specs.Shape.{IsGeometry};
-ghost use Rattle.log_record.specs.Spelling.{IsRecord};
+ghost use Rattle.log_record.specs.Encoding.{IsRecord};
 
 use super::*;
 use disk_model::{Disk, FaultDisk, MemoryDisk, View};

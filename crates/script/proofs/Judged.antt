@@ -16,7 +16,7 @@ use Rattle.script.specs.Words.{Kind, FitAll, is_letter, words_of}
 use Rattle.script.specs.Words.Kind.{actor}
 use Rattle.script.specs.Commands.{written_so, call_word, call_kinds, call_of, calls, control_word, control_of, controls}
 use Rattle.script.specs.Rules.{Outline, Known, call_outline, outline_at, begin_outline, control_outline, plain_outline, outline, Breaks, IsInside, is_stray}
-use Rattle.script.specs.Spelling.{Spells, IsCommand}
+use Rattle.script.specs.Meaning.{Denotes, IsCommand}
 use Rattle.script.specs.Reading.{BreaksAt, IsOutlineFault, ReadsAs, IsLineFault}
 
 -- what is found by its word has that word
@@ -112,7 +112,7 @@ from_line line clean rule.WordForm h = h
 from_line line clean rule.CallFollows h = h
 
 pub line_read : (line : List ℕ) (result : Result Command LineFault) → list_any is_stray line ≡ false → ReadsAs (outline (words_of line)) (words_of line) result
-    → MatchResult result (λ command. IsInside line × Spells (words_of line) command × IsCommand command) (IsLineFault line)
+    → MatchResult result (λ command. IsInside line × Denotes (words_of line) command × IsCommand command) (IsLineFault line)
 line_read line (Ok command) clean h = ((λ r b. h.0 r (from_line line clean r b)), h.1, h.2)
 line_read line (Err (fault.Breaks r)) clean h = (to_line line r h.0, (λ other low b. h.1 other low (from_line line clean other b)))
 line_read line (Err fault.NoMemory) clean h = tt

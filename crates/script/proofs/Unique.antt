@@ -1,4 +1,4 @@
--- No words spell two commands.
+-- No words denote two commands.
 use Rattle.std.proofs.Common.{◌≡◌, ◌≢◌, ◌+◌, ◌<◌, ◌≤◌, ◌^◌, ℕ, Bool, false, List, [], ◌∷◌, Option, None, Some, length, get_or, eqb, ne_eqb, codes, refl, sym, ap, ◌∙◌, arith, inl, inr}
 use Rattle.std.specs.List.{slice_split, All}
 use Rattle.std.specs.Fmt.{decimal}
@@ -18,7 +18,7 @@ use Rattle.script.specs.declared.types.Spoken.{Spoken}
 use Rattle.script.specs.declared.types.Spoken.TheVariants as spoken
 use Rattle.script.specs.Words.{letter_of}
 use Rattle.script.specs.Commands.{call_of, call_word, control_of, control_word}
-use Rattle.script.specs.Spelling.{IsCommand, IsSpoken, Spells, spoken_words}
+use Rattle.script.specs.Meaning.{IsCommand, IsSpoken, Denotes, spoken_words}
 use Rattle.script.proofs.Judged.{control_written}
 
 -- the digits of a number are no dots
@@ -180,7 +180,7 @@ call_begins_none call.Gc = refl
 call_begins_none call.Flush = refl
 call_begins_none call.Reclaim = refl
 
-heads : (words : List (List ℕ)) (a : Command) → Spells words a → head_control words ≡ command_control a
+heads : (words : List (List ℕ)) (a : Command) → Denotes words a → head_control words ≡ command_control a
 unfolding control_of
 heads words command.Mount is = ap head_control is
 heads words command.Unmount is = ap head_control is
@@ -225,13 +225,13 @@ same_acting a b s t ok ok' is =
     let words : spoken_words s ≡ spoken_words t = cc in
     (same_letter a b letters, same_spoken s t ok ok' words)
 
-same_whole : (words : List (List ℕ)) (a b : ℕ) (s t : Spoken) → IsSpoken s → IsSpoken t → Spells words (command.Whole a s) → Spells words (command.Whole b t) → (a ≡ b) × (s ≡ t)
+same_whole : (words : List (List ℕ)) (a b : ℕ) (s t : Spoken) → IsSpoken s → IsSpoken t → Denotes words (command.Whole a s) → Denotes words (command.Whole b t) → (a ≡ b) × (s ≡ t)
 same_whole words a b s t ok ok' (inl is) (inl is') = same_acting a b s t ok ok' (sym is ∙ is')
 same_whole words a b s t ok ok' (inl is) (inr is') = absurd (not_letter a (spoken_words s) t (sym is ∙ is'.1))
 same_whole words a b s t ok ok' (inr is) (inl is') = absurd (not_letter b (spoken_words t) s (sym is' ∙ is.1))
 same_whole words a b s t ok ok' (inr is) (inr is') = (is.0 ∙ sym is'.0, same_spoken s t ok ok' (sym is.1 ∙ is'.1))
 
-same_command : (words : List (List ℕ)) (a b : Command) → IsCommand a → IsCommand b → Spells words a → Spells words b → command_control a ≡ command_control b → a ≡ b
+same_command : (words : List (List ℕ)) (a b : Command) → IsCommand a → IsCommand b → Denotes words a → Denotes words b → command_control a ≡ command_control b → a ≡ b
 same_command words command.Mount command.Mount ok ok' is is' c = refl
 same_command words command.Unmount command.Unmount ok ok' is is' c = refl
 same_command words command.Stop command.Stop ok ok' is is' c = refl
@@ -268,5 +268,5 @@ same_command words (command.Whole a s) (command.Whole b t) ok ok' is is' c =
     cc
 same_command words a b ok ok' is is' c = absurd cc
 
-pub one_command : (words : List (List ℕ)) (a b : Command) → IsCommand a → IsCommand b → Spells words a → Spells words b → a ≡ b
+pub one_command : (words : List (List ℕ)) (a b : Command) → IsCommand a → IsCommand b → Denotes words a → Denotes words b → a ≡ b
 one_command words a b ok ok' is is' = same_command words a b ok ok' is is' (sym (heads words a is) ∙ heads words b is')

@@ -2,7 +2,7 @@ pub mod Words
 pub mod Pieces
 pub mod Commands
 pub mod Rules
-pub mod Spelling
+pub mod Meaning
 pub mod Reading
 pub mod Scripts
 pub mod Texts

@@ -11,7 +11,7 @@ use Rattle.script.specs.declared.read.StopWords.TheVariants as stop
 use Rattle.script.specs.declared.types.Command.{Command}
 use Rattle.script.specs.Words.{Kind, Fits, FitAll}
 use Rattle.script.specs.Rules.{Outline, HasNoCommand, HasWrongCount, HasWrongWord, HasNoCall, IsLeast, rule_number}
-use Rattle.script.specs.Spelling.{Spells, IsCommand}
+use Rattle.script.specs.Meaning.{Denotes, IsCommand}
 
 -- a word is not of this form, or there was no memory
 abbrev pub IsWordFault : Kind → List ℕ → LineFault → Type 0
@@ -46,7 +46,7 @@ IsOutlineFault at fault.NoMemory = Unit {0}
 
 -- the words were read as a command, or refused
 abbrev pub ReadsAs : Outline → List (List ℕ) → Result Command LineFault → Type 0
-ReadsAs at words result = MatchResult result (λ command. ((r : Rule) → ¬ BreaksAt r at) × Spells words command × IsCommand command) (IsOutlineFault at)
+ReadsAs at words result = MatchResult result (λ command. ((r : Rule) → ¬ BreaksAt r at) × Denotes words command × IsCommand command) (IsOutlineFault at)
 
 -- a line was refused by the least rule that it breaks
 abbrev pub IsLineFault : List ℕ → LineFault → Type 0

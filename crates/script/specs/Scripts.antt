@@ -5,7 +5,7 @@ use Rattle.script.specs.declared.fault.Rule.{Rule}
 use Rattle.script.specs.declared.types.Line.{Line}
 use Rattle.script.specs.Words.{words_of}
 use Rattle.script.specs.Rules.{IsInside, IsLeast, rule_number}
-use Rattle.script.specs.Spelling.{Spells, IsCommand}
+use Rattle.script.specs.Meaning.{Denotes, IsCommand}
 
 -- the lines of a script, cut at line feeds; behind the last one stands an empty line
 abbrev pub lines_of : List ℕ → List (List ℕ)
@@ -31,18 +31,18 @@ numbered number (line ∷ lines) =
 abbrev pub asking_lines : List ℕ → List Numbered
 asking_lines bytes = numbered 1 (lines_of bytes)
 
--- the line is in the grammar, and was read as what it spells
+-- the line is in the grammar, and was read as what it denotes
 pub record IsReadAs (asking : Numbered) (line : Line) : Type 0 where
   pub number : line.number ≡ asking.number
   pub inside : IsInside asking.text
-  pub spells : Spells (words_of asking.text) line.command
+  pub denotes : Denotes (words_of asking.text) line.command
   pub command : IsCommand line.command
 
 -- each line of the script that asks for something is in the grammar
 abbrev pub IsInGrammar : List ℕ → Type 0
 IsInGrammar bytes = AllByRecursion (λ asking. IsInside asking.text) (asking_lines bytes)
 
--- the lines were read, each as what it spells
+-- the lines were read, each as what it denotes
 abbrev pub AreReadAs : List Numbered → List Line → Type 0
 AreReadAs asking lines = AllZip IsReadAs asking lines
 

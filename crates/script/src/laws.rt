@@ -2,7 +2,7 @@
 
 ghost use Rattle.std.specs.Prelude.{◌≡◌, List, ℕ};
 ghost use Rattle.script.specs.declared.types.Command.{Command};
-ghost use Rattle.script.specs.Spelling.{IsCommand, Spells};
+ghost use Rattle.script.specs.Meaning.{IsCommand, Denotes};
 ghost use Rattle.script.specs.Scripts.{asking_lines, IsFirstFault, IsInGrammar};
 
 /// A script that is in the grammar has no first line outside it, and no script has two.
@@ -12,7 +12,7 @@ pub fn one_first_fault()
         → IsFirstFault (asking_lines bytes) other named → (line ≡ other) × (rule ≡ named) }
 {}
 
-/// No words are two commands, so what a line is read as is the one command that it spells.
+/// No words are two commands, so what a line is read as is the one command that it denotes.
 pub fn one_command()
-    ensures { (words : List (List ℕ)) (a b : Command) → IsCommand a → IsCommand b → Spells words a → Spells words b → a ≡ b }
+    ensures { (words : List (List ℕ)) (a b : Command) → IsCommand a → IsCommand b → Denotes words a → Denotes words b → a ≡ b }
 {}

@@ -39,7 +39,7 @@
 //! | 4 | a word that has not the form of its place |
 //! | 5 | a word behind an actor, where a call has to stand and none does |
 //!
-//! `specs/Rules.antt` has the rules, `specs/Spelling.antt` what is read of a line, and `specs/Texts.antt` the texts.
+//! `specs/Rules.antt` has the rules, `specs/Meaning.antt` what is read of a line, and `specs/Texts.antt` the texts.
 #![tactic(auto)]
 
 mod answers;

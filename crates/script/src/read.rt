@@ -9,7 +9,7 @@ ghost use Rattle.script.specs.Words.{Kind as kind, FitAll, is_name, letter_of, w
 ghost use Rattle.script.specs.Commands.{call_kinds, call_of, call_word, control_of, control_word};
 ghost use Rattle.script.specs.Rules.{begin_outline, call_outline, control_outline, plain_outline, is_stray, outline, IsInside};
 ghost use Rattle.script.specs.Rules.{Outline as outline_of};
-ghost use Rattle.script.specs.Spelling.{IsCommand, IsSpoken, Spells, spoken_words};
+ghost use Rattle.script.specs.Meaning.{IsCommand, IsSpoken, Denotes, spoken_words};
 ghost use Rattle.script.specs.Reading.{AreStopWords, AreWordsFault, IsLineFault, IsOutlineFault, IsWordFault, ReadsAs};
 
 use crate::commands::{Call, Control, read_call, read_control};
@@ -334,7 +334,7 @@ fn has_stray_byte(line: &[u8]) -> bool
 
 /// What a line asks for that is neither empty nor a comment.
 pub(crate) fn read_line(alloc: Global, line: &[u8]) -> Result<Command, LineFault>
-    ensures { MatchResult result (λ command. IsInside line.now × Spells (words_of line.now) command × IsCommand command) (IsLineFault line.now) }
+    ensures { MatchResult result (λ command. IsInside line.now × Denotes (words_of line.now) command × IsCommand command) (IsLineFault line.now) }
 {
     if has_stray_byte(line) {
         return Err(LineFault::Breaks(Rule::Bytes));

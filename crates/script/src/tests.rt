@@ -9,7 +9,7 @@ const KEY: Key = Key {
 };
 
 #[test]
-fn each_line_is_read_as_what_it_spells(rt: HostRuntime) -> Result<(), Fail> {
+fn each_line_is_read_as_what_it_denotes(rt: HostRuntime) -> Result<(), Fail> {
     let alloc = rt.alloc();
     for (text, want) in [
         ("mount", "Mount"),

@@ -1,4 +1,4 @@
--- A sound image is the spelling of its table: each of its sectors is what is spelled there.
+-- A sound image is the encoding of its table: each of its sectors is what is encoded there.
 use Rattle.std.proofs.Common.{◌≡◌, ◌≢◌, ◌<◌, ◌≤◌, ◌+◌, ◌-◌, ◌*◌, ◌/◌, ◌%◌, ℕ, zero, suc, Bool, true, false, cond, eqb, leb, ltb, List, [], ◌++◌, Option, None, Some, length, map, get_or, take, drop, inl, inr, refl, ap, sym, subst, ◌∙◌, arith}
 use Rattle.std.specs.Prelude.{is_some, ◌&&◌, unwrap_or, sum_by}
 use Rattle.std.specs.Option.{option_map}
@@ -14,14 +14,14 @@ use Rattle.geometry.specs.Places.{group_sectors}
 use Rattle.geometry.specs.Shape.{IsGeometry}
 use Rattle.inode_core.specs.declared.shape.Core.{Core}
 use Rattle.inode_core.specs.Cores.{fork_of}
-use Rattle.inode_core.specs.Cores.{spelling as core_spelling}
+use Rattle.inode_core.specs.Cores.{encoding as core_encoding}
 use Rattle.extent_fork.specs.Forks.{fork as fork_bytes}
 use Rattle.extent_fork.specs.Reading.{runs_in}
 use Rattle.extent_fork.specs.Runs.{runs}
 use Rattle.ag_header.specs.declared.agi.Agi.{Agi}
-use Rattle.ag_header.specs.Headers.{spelling as header_spelling}
+use Rattle.ag_header.specs.Headers.{encoding as header_encoding}
 use Rattle.inobt_leaf.specs.declared.chunk.ChunkRec.{ChunkRec}
-use Rattle.inobt_leaf.specs.Pages.{spelling as page_spelling}
+use Rattle.inobt_leaf.specs.Pages.{encoding as page_encoding}
 use Rattle.free_map.specs.Bitmap.{bitmap}
 use Rattle.life_table.specs.declared.types.Row.{Row}
 use Rattle.life_table.specs.declared.table.Inode.{Inode}
@@ -34,7 +34,7 @@ use Rattle.sound_image.specs.Places.{AreSectors, bytes_at, bytes_from, part, sec
 use Rattle.sound_image.specs.Reading.{header_of, page_sector, records_of, inode_bytes, core_of, blocks_in, group_read, row_at, rows_of}
 use Rattle.sound_image.specs.Rules.{free_set, IsListed, pointer}
 use Rattle.sound_image.specs.Damage.{header, tree, core, fork, bitmap as bitmap_rule, pointers, lists, IsSound}
-use Rattle.sound_image.specs.Spelling.{Layout, Layouts, layout_of, page_of, list_of, head_of, next_in, is_unlinked, AreLayouts, header_for, core_for, fork_for, inode_sector, page_place, page_bytes, metadata, spelled, CanSpell}
+use Rattle.sound_image.specs.Encoding.{Layout, Layouts, layout_of, page_of, list_of, head_of, next_in, is_unlinked, AreLayouts, header_for, core_for, fork_for, inode_sector, page_place, page_bytes, metadata, encoded, CanEncode}
 use Rattle.sound_image.proofs.Buckets.{head_at, next_none}
 use Rattle.sound_image.proofs.Found.{found, inode_found, row_found}
 use Rattle.sound_image.proofs.Groups.{all_in_data, in_range}
@@ -44,8 +44,8 @@ use Rattle.sound_image.proofs.Leaves.{free_sum}
 use Rattle.sound_image.proofs.Metadata.{is_bitmap, is_page, chosen, by_tests}
 use Rattle.sound_image.proofs.Ready.{Lower, ready, unlinked, is_linked}
 use Rattle.sound_image.proofs.Rows.{row_made}
-use Rattle.sound_image.proofs.Sectors.{sector_of, length-spelled, behind_groups, in_image, at_place}
-use Rattle.sound_image.proofs.Spelled.{records_again}
+use Rattle.sound_image.proofs.Sectors.{sector_of, length-encoded, behind_groups, in_image, at_place}
+use Rattle.sound_image.proofs.Encoded.{records_again}
 use Rattle.sound_image.proofs.Tables.{table_right, group_right, good_group, length_group}
 
 -- ---- the layouts
@@ -127,7 +127,7 @@ pub are_layouts : (l : Lower) (g : Geometry) (image : List Sector) (layouts : La
 are_layouts l g image layouts is sound are = record {
   pages = λ group low.
       let lt : group < g.groups = omega (arith, low, length_groups g image) in
-      let root = (sound header group lt).spelled.allowed.root in
+      let root = (sound header group lt).encoded.allowed.root in
       (omega (arith, are.page group lt, root.0), omega (arith, are.page group lt, root.1));
   buckets = λ group bucket agino low small.
       let lt : group < g.groups = omega (arith, low, length_groups g image) in
@@ -135,9 +135,9 @@ are_layouts l g image layouts is sound are = record {
       ∙ ap (λ (chunks : Group). cond (eqb (agino % 64) bucket && is_unlinked (inode_in chunks agino)) 1 0) (sym (group_of_rows g image group lt));
 }
 
-pub can_spell : (l : Lower) (g : Geometry) (image : List Sector) (layouts : Layouts) → IsGeometry g → IsSound g image → AreRead g image layouts → g.groups * group_sectors g ≤ length image
-    → CanSpell g (rows_of g image) layouts image
-can_spell l g image layouts is sound are size = record {
+pub can_encode : (l : Lower) (g : Geometry) (image : List Sector) (layouts : Layouts) → IsGeometry g → IsSound g image → AreRead g image layouts → g.groups * group_sectors g ≤ length image
+    → CanEncode g (rows_of g image) layouts image
+can_encode l g image layouts is sound are size = record {
   shape = is;
   table = table_right l g image is sound;
   groups = length_groups g image;
@@ -179,8 +179,8 @@ header_again l g image layouts group sound are lt =
     let right = sound header group lt in
     let counts = (sound tree group lt).1 in
     let leaf = (sound tree group lt).0.leaf in
-    let level = right.spelled.allowed.level in
-    let heads = right.spelled.fits.heads in
+    let level = right.encoded.allowed.level in
+    let heads = right.encoded.fits.heads in
     let f : ℕ → ℕ = λ bucket. head_of (list_of layouts group bucket) in
     same_agi agi (header_for g group chunks layouts) right.own_group right.blocks
     (counts.count ∙ ap (λ (n : ℕ). 64 * n) (sym (length_group g image group)))
@@ -228,9 +228,9 @@ page_again l g image layouts group k sound are lt long low =
     let page = (sound tree group lt).0 in
     let s : ℕ = page_sector g image group in
     let at = page_sector_read g image layouts group are lt in
-    ap (λ (rs : List ChunkRec). part k (page_spelling rs group (sector_in g group (page_place layouts group)) g.uuid)) (records_again l g image group page.leaf)
-    ∙ ap (λ (n : ℕ). part k (page_spelling (records_of g image group) group n g.uuid)) (sym at)
-    ∙ ap (part k) (sym page.spelled)
+    ap (λ (rs : List ChunkRec). part k (page_encoding rs group (sector_in g group (page_place layouts group)) g.uuid)) (records_again l g image group page.leaf)
+    ∙ ap (λ (n : ℕ). part k (page_encoding (records_of g image group) group n g.uuid)) (sym at)
+    ∙ ap (part k) (sym page.encoded)
     ∙ bytes_part image s 8 k long low
     ∙ ap (λ (n : ℕ). bytes_at image (n + k)) at
     ∙ ap (bytes_at image) (sector_more g group (page_place layouts group) k)
@@ -267,7 +267,7 @@ next_again g image t layouts group agino row are lt some listed none =
       | inr links ↦ listed.linked links ∙ sym (next_none members agino (none links))
     ]
 
--- what an inode of a group is spelled as
+-- what an inode of a group is encoded as
 record SameInode (g : Geometry) (image : List Sector) (layouts : Layouts) (group agino : ℕ) (x : Inode) : Type 0 where
   core_is : core_of g image group agino ≡ core_for x.generation x.row (next_in (list_of layouts group (agino % 64)) agino)
   fork_is : fork_of (inode_bytes g image group agino) ≡ fork_for group x.row
@@ -285,17 +285,17 @@ same_inode l g image layouts group agino x is sound are lt e =
     elim r.row [
       | inl none ↦
           let dead : held.live ≡ false = c.live ∙ ap is_some none in
-          let free = c.spelled.allowed.free dead in
+          let free = c.encoded.allowed.free dead in
           record {
             core_is = same_core held (core_for x.generation None next) dead free.links free.size free.blocks free.extents (sym r.generation) free.next
                 ∙ ap (λ (o : Option Row). core_for x.generation o next) (sym none);
-            fork_is = c.spelled.fork dead ∙ ap (fork_for group) (sym none);
+            fork_is = c.encoded.fork dead ∙ ap (fork_for group) (sym none);
           }
       | inr live ↦
           let row : Row = row_made held.links (blocks_in g image group agino) in
           let at : row_at g image group agino ≡ Some row = row_found g image group agino x row e live in
           let used : held.live ≡ true = c.live ∙ ap is_some live in
-          let allowed = c.spelled.allowed.live used in
+          let allowed = c.encoded.allowed.live used in
           let f = sound fork group lt agino row at in
           let again = runs_again l g image group agino sound lt row at in
           let not_listed : row.links ≢ 0 → times agino (list_of layouts group (agino % 64)) ≡ 0 =
@@ -306,7 +306,7 @@ same_inode l g image layouts group agino x is sound are lt e =
                 (sym (ap length again ∙ f.runs.many)) (sym r.generation)
                 (next_again g image (rows_of g image) layouts group agino row are lt (λ end. omega (arith, end, range.1, most)) (sound lists group lt agino row at) not_listed)
                 ∙ ap (λ (o : Option Row). core_for x.generation o next) (sym live);
-            fork_is = f.runs.spelled ∙ ap (fork_bytes group) (sym again) ∙ ap (fork_for group) (sym live);
+            fork_is = f.runs.encoded ∙ ap (fork_bytes group) (sym again) ∙ ap (fork_for group) (sym live);
           }
     ]
   where
@@ -321,9 +321,9 @@ unfolding inode_sector
 inode_again l g image layouts group agino x is sound are lt e =
     let s = same_inode l g image layouts group agino x is sound are lt e in
     let c = sound core group lt agino x (inode_found g image group agino x e) in
-    ap (λ (core : Core). core_spelling core (number_in group agino) g.uuid (fork_for group x.row)) (sym s.core_is)
-    ∙ ap (core_spelling (core_of g image group agino) (number_in group agino) g.uuid) (sym s.fork_is)
-    ∙ sym c.spelled.sector
+    ap (λ (core : Core). core_encoding core (number_in group agino) g.uuid (fork_for group x.row)) (sym s.core_is)
+    ∙ ap (core_encoding (core_of g image group agino) (number_in group agino) g.uuid) (sym s.fork_is)
+    ∙ sym c.encoded.sector
 
 -- ---- every sector
 
@@ -355,16 +355,16 @@ place_again : (l : Lower) (g : Geometry) (image : List Sector) (layouts : Layout
 place_again l g image layouts group place is sound are size long lt low =
     let chunks = group_read g image group in
     let old : List ℕ = bytes_at image (sector_in g group place) in
-    let r = ready g (rows_of g image) layouts image group (can_spell l g image layouts is sound are size) lt in
+    let r = ready g (rows_of g image) layouts image group (can_encode l g image layouts is sound are size) lt in
     let p : ℕ = page_place layouts group in
     let high = r.page_high in
     let least = r.least in
     subst (Keeps old) (sym (by_tests g layouts group chunks place))
-    (one_of_four (eqb place 2) (is_bitmap place) (is_page p place) (Some (header_spelling (header_for g group chunks layouts))) (Some (part (place - 8) (bitmap (free_set g.blocks chunks))))
+    (one_of_four (eqb place 2) (is_bitmap place) (is_page p place) (Some (header_encoding (header_for g group chunks layouts))) (Some (part (place - 8) (bitmap (free_set g.blocks chunks))))
     (Some (part (place - p) (page_bytes g layouts group chunks))) (option_map (inode_sector g layouts group place) (inode_in chunks place)) old
     (λ e.
     let at : place ≡ 2 = eqb-true place 2 e in
-    ap header_spelling (sym (header_again l g image layouts group sound are lt)) ∙ sym (sound header group lt).spelled.sector ∙ ap (λ (n : ℕ). bytes_at image (sector_in g group n)) (sym at))
+    ap header_encoding (sym (header_again l g image layouts group sound are lt)) ∙ sym (sound header group lt).encoded.sector ∙ ap (λ (n : ℕ). bytes_at image (sector_in g group n)) (sym at))
     (λ e.
     let both = and_parts (leb 8 place) (ltb place 12) e in
     let from = leb-true 8 place both.0 in
@@ -385,7 +385,7 @@ place_again l g image layouts group place is sound are size long lt low =
     (inode_keeps (inode_in chunks place) (inode_sector g layouts group place) old (λ x e. inode_again l g image layouts group place x is sound are lt e)))
 
 sector_again : (l : Lower) (g : Geometry) (image : List Sector) (layouts : Layouts) (s : ℕ) → IsGeometry g → IsSound g image → AreRead g image layouts → g.groups * group_sectors g ≤ length image
-    → AreSectors image → s < length image → bytes_at (spelled g (rows_of g image) layouts image) s ≡ bytes_at image s
+    → AreSectors image → s < length image → bytes_at (encoded g (rows_of g image) layouts image) s ≡ bytes_at image s
 unfolding sector_in
 sector_again l g image layouts s is sound are size long lt =
     let t = rows_of g image in
@@ -399,7 +399,7 @@ sector_again l g image layouts s is sound are size long lt =
           let below : group < g.groups = div_below s (group_sectors g) g.groups some low in
           let inner : place < group_sectors g = mod_below s (group_sectors g) some in
           let at : sector_in g group place ≡ s = div-add-mod' s (group_sectors g) in
-          ap (bytes_at (spelled g t layouts image)) (sym at)
+          ap (bytes_at (encoded g t layouts image)) (sym at)
           ∙ at_place g t layouts image group place size below inner
           ∙ ap (λ (chunks : Group). unwrap_or (metadata g layouts group chunks place) (bytes_at image (sector_in g group place))) (group_of_rows g image group below)
           ∙ place_again l g image layouts group place is sound are size long below inner
@@ -411,10 +411,10 @@ unfolding bytes_at
 same_bytes a b s e = ap sector_of e
 
 pub image_again : (l : Lower) (g : Geometry) (image : List Sector) (layouts : Layouts) → IsGeometry g → IsSound g image → AreRead g image layouts → g.groups * group_sectors g ≤ length image
-    → AreSectors image → spelled g (rows_of g image) layouts image ≡ image
+    → AreSectors image → encoded g (rows_of g image) layouts image ≡ image
 image_again l g image layouts is sound are size long =
-    let new = spelled g (rows_of g image) layouts image in
-    let many = length-spelled g (rows_of g image) layouts image in
+    let new = encoded g (rows_of g image) layouts image in
+    let many = length-encoded g (rows_of g image) layouts image in
     same_lists new image many
     (λ s d lt.
     let within : s < length image = omega (arith, lt, many) in
@@ -422,8 +422,8 @@ image_again l g image layouts is sound are size long =
     ∙ same_bytes new image s (sector_again l g image layouts s is sound are size long within)
     ∙ get_or_default image s zero_sector d within)
 
-pub spelled_again : (l : Lower) (g : Geometry) (image : List Sector) → IsGeometry g → IsSound g image → g.groups * group_sectors g ≤ length image → AreSectors image
-    → (layouts : Layouts) × CanSpell g (rows_of g image) layouts image × (spelled g (rows_of g image) layouts image ≡ image)
-spelled_again l g image is sound size long =
+pub encoded_again : (l : Lower) (g : Geometry) (image : List Sector) → IsGeometry g → IsSound g image → g.groups * group_sectors g ≤ length image → AreSectors image
+    → (layouts : Layouts) × CanEncode g (rows_of g image) layouts image × (encoded g (rows_of g image) layouts image ≡ image)
+encoded_again l g image is sound size long =
     let read = layouts_read g image sound in
-    (read.0, can_spell l g image read.0 is sound read.1 size, image_again l g image read.0 is sound read.1 size long)
+    (read.0, can_encode l g image read.0 is sound read.1 size, image_again l g image read.0 is sound read.1 size long)

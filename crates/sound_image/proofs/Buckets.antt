@@ -1,4 +1,4 @@
--- The unlinked buckets of an image that spells a table are its bucket lists.
+-- The unlinked buckets of an image that encodes a table are its bucket lists.
 use Rattle.std.proofs.Common.{◌≡◌, ◌≢◌, ◌<◌, ◌≤◌, ◌%◌, ℕ, zero, suc, true, cond, List, [], ◌∷◌, Option, Some, length, get_or, eqb, inl, inr, refl, ap, sym, subst, ◌∙◌, arith}
 use Rattle.std.specs.Prelude.{IsSomeAnd}
 use Rattle.std.specs.Option.{option_map, option_and_then}
@@ -17,7 +17,7 @@ use Rattle.life_table.specs.History.{closed_inode, closed_row}
 use Rattle.life_table.specs.Space.{times}
 use Rattle.sound_image.specs.Reading.{core_of, row_at}
 use Rattle.sound_image.specs.Rules.{pointer, IsMember, IsNewMember, Ends, IsMet, IsListed}
-use Rattle.sound_image.specs.Spelling.{Layouts, list_of, head_of, next_in, header_for, is_unlinked, spelled}
+use Rattle.sound_image.specs.Encoding.{Layouts, list_of, head_of, next_in, header_for, is_unlinked, encoded}
 use Rattle.sound_image.proofs.Groups.{times-cons, times-nil, times_here, times_later}
 use Rattle.sound_image.proofs.Headers.{header_is}
 use Rattle.sound_image.proofs.Inodes.{times_get, next_is}
@@ -98,12 +98,12 @@ once_of : (g : Geometry) (t : Table) (layouts : Layouts) (image : List Sector) (
 once_of g t layouts image group bucket r low m = member_once g t layouts image group bucket m r low
 
 pointer_is : (l : Lower) (g : Geometry) (t : Table) (layouts : Layouts) (image : List Sector) (group bucket : ℕ) → IsReady g t layouts image group → bucket < 64
-    → (n : ℕ) → n ≤ length (list_of layouts group bucket) → pointer g (spelled g t layouts image) group bucket n ≡ get_or (list_of layouts group bucket) n NO_INODE
+    → (n : ℕ) → n ≤ length (list_of layouts group bucket) → pointer g (encoded g t layouts image) group bucket n ≡ get_or (list_of layouts group bucket) n NO_INODE
 unfolding pointer
 pointer_is l g t layouts image group bucket r low zero le =
     ap (λ (agi : Agi). get_or agi.heads bucket 0) (header_is l g t layouts image group r) ∙ heads_at g group (group_of t group) layouts bucket low ∙ head_at (list_of layouts group bucket)
 pointer_is l g t layouts image group bucket r low (suc n) le =
-    let new = spelled g t layouts image in
+    let new = encoded g t layouts image in
     let members = list_of layouts group bucket in
     let a : ℕ = get_or members n NO_INODE in
     let m = member g t layouts image group bucket a r low (times_get members n NO_INODE (omega arith)) in
@@ -122,14 +122,14 @@ row_made o x row found live nil =
     (subst (λ (o : Option Row). IsSomeAnd (closed_row o) (λ (row : Row). row.links ≡ 0)) (sym live) nil)
 
 no_links : (l : Lower) (g : Geometry) (t : Table) (layouts : Layouts) (image : List Sector) (group agino : ℕ) (x : Inode) (row : Row) → IsReady g t layouts image group
-    → inode_in (group_of t group) agino ≡ Some x → x.row ≡ Some row → row.links ≡ 0 → IsSomeAnd (row_at g (spelled g t layouts image) group agino) (λ (row : Row). row.links ≡ 0)
+    → inode_in (group_of t group) agino ≡ Some x → x.row ≡ Some row → row.links ≡ 0 → IsSomeAnd (row_at g (encoded g t layouts image) group agino) (λ (row : Row). row.links ≡ 0)
 unfolding row_at
 no_links l g t layouts image group agino x row r found live nil =
     subst (λ (o : Option Inode). IsSomeAnd (option_and_then (λ (inode : Inode). inode.row) o) (λ (row : Row). row.links ≡ 0)) (sym (inode_at_is l g t layouts image group agino r))
     (row_made (inode_in (group_of t group) agino) x row found live nil)
 
 is_member : (l : Lower) (g : Geometry) (t : Table) (layouts : Layouts) (image : List Sector) (group bucket a : ℕ) → IsReady g t layouts image group → bucket < 64
-    → 1 ≤ times a (list_of layouts group bucket) → IsMember g (spelled g t layouts image) group bucket a
+    → 1 ≤ times a (list_of layouts group bucket) → IsMember g (encoded g t layouts image) group bucket a
 is_member l g t layouts image group bucket a r low some =
     let m = member g t layouts image group bucket a r low some in
     let u = m.unlinked in
@@ -142,9 +142,9 @@ is_member l g t layouts image group bucket a r low some =
     }
 
 new_member : (l : Lower) (g : Geometry) (t : Table) (layouts : Layouts) (image : List Sector) (group bucket : ℕ) → IsReady g t layouts image group → bucket < 64
-    → (k : ℕ) → k < length (list_of layouts group bucket) → IsNewMember g (spelled g t layouts image) group bucket k
+    → (k : ℕ) → k < length (list_of layouts group bucket) → IsNewMember g (encoded g t layouts image) group bucket k
 new_member l g t layouts image group bucket r low k lt =
-    let new = spelled g t layouts image in
+    let new = encoded g t layouts image in
     let members = list_of layouts group bucket in
     let at : (n : ℕ) → n < length members → pointer g new group bucket n ≡ get_or members n NO_INODE = λ n within. pointer_is l g t layouts image group bucket r low n (omega arith) in
     record {
@@ -153,7 +153,7 @@ new_member l g t layouts image group bucket r low k lt =
     }
 
 pub pointers_right : (l : Lower) (g : Geometry) (t : Table) (layouts : Layouts) (image : List Sector) (group bucket : ℕ) → IsReady g t layouts image group → bucket < 64
-    → Ends g (spelled g t layouts image) group bucket
+    → Ends g (encoded g t layouts image) group bucket
 pointers_right l g t layouts image group bucket r low =
     let members = list_of layouts group bucket in
     record {
@@ -165,7 +165,7 @@ pointers_right l g t layouts image group bucket r low =
 -- ---- the lists are complete
 
 met : (l : Lower) (g : Geometry) (t : Table) (layouts : Layouts) (image : List Sector) (group agino : ℕ) → IsReady g t layouts image group
-    → is_unlinked (inode_in (group_of t group) agino) ≡ true → IsMet g (spelled g t layouts image) group agino
+    → is_unlinked (inode_in (group_of t group) agino) ≡ true → IsMet g (encoded g t layouts image) group agino
 met l g t layouts image group agino r e =
     let bucket : ℕ = agino % 64 in
     let low : bucket < 64 = omega arith in
@@ -178,7 +178,7 @@ met l g t layouts image group agino r e =
     }
 
 pub lists_right : (l : Lower) (g : Geometry) (t : Table) (layouts : Layouts) (image : List Sector) (group agino : ℕ) (row : Row) → IsReady g t layouts image group
-    → row_at g (spelled g t layouts image) group agino ≡ Some row → IsListed g (spelled g t layouts image) group agino row
+    → row_at g (encoded g t layouts image) group agino ≡ Some row → IsListed g (encoded g t layouts image) group agino row
 lists_right l g t layouts image group agino row r e =
     let x = is_row_read l g t layouts image group agino row r e in
     record {

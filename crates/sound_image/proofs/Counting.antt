@@ -13,10 +13,10 @@ use Rattle.life_table.specs.declared.table.Chunk.{Chunk}
 use Rattle.life_table.specs.Table.{Group}
 use Rattle.sound_image.specs.Counts.{inodes_in}
 use Rattle.sound_image.specs.Reading.{chunk_read, group_read, records_of}
-use Rattle.sound_image.specs.Spelling.{free_count, record_of}
+use Rattle.sound_image.specs.Encoding.{free_count, record_of}
 use Rattle.sound_image.proofs.Leaves.{free_sum}
 use Rattle.sound_image.proofs.Ready.{Lower}
-use Rattle.sound_image.proofs.Spelled.{length_inodes, records_again}
+use Rattle.sound_image.proofs.Encoded.{length_inodes, records_again}
 use Rattle.sound_image.proofs.Tables.{group_is_map}
 
 used : Inode → Bool

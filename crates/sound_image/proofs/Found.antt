@@ -105,14 +105,14 @@ is_good l g image group agino x good e =
     let c = good.cores agino x (inode_found g image group agino x e) in
     elim r.row [
       | inl none ↦
-          let free = c.spelled.allowed.free (c.live ∙ ap is_some none) in
+          let free = c.encoded.allowed.free (c.live ∙ ap is_some none) in
           record {
             first = omega (arith, r.generation, free.generation.0);
             last = omega (arith, r.generation, free.generation.1);
             row = subst (λ (o : Option Row). IfSome o (IsRow x.generation)) (sym none) tt;
           }
       | inr live ↦
-          let is = c.spelled.allowed.live (c.live ∙ ap is_some live) in
+          let is = c.encoded.allowed.live (c.live ∙ ap is_some live) in
           let f = good.forks agino (row_made (core_of g image group agino).links (blocks_in g image group agino)) (row_found g image group agino x _ e live) in
           record {
             first = omega (arith, r.generation, is.generation.0);

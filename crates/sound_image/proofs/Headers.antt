@@ -1,4 +1,4 @@
--- The headers and pages of an image that spells a table.
+-- The headers and pages of an image that encodes a table.
 use Rattle.std.proofs.Common.{◌≡◌, ◌<◌, ◌≤◌, ◌+◌, ◌*◌, ◌^◌, ℕ, List, [], ◌∷◌, length, map, get_or, inl, inr, refl, ap, sym, subst, ◌∙◌, arith, lit<, lit≤}
 use Rattle.std.specs.Prelude.{sum_by}
 use Rattle.std.specs.List.{range_with_len}
@@ -8,18 +8,18 @@ use Rattle.std.proofs.lemmas.List.FromFn.{length-map-range_with_len, get_or-map-
 use Rattle.life_bytes.specs.declared.sector.Sector.{Sector}
 use Rattle.geometry.specs.declared.shape.Geometry.{Geometry}
 use Rattle.ag_header.specs.declared.agi.Agi.{Agi}
-use Rattle.ag_header.specs.Headers.{IsAgi, Fits, Spells, spelling}
+use Rattle.ag_header.specs.Headers.{IsAgi, Fits, Encodes, encoding}
 use Rattle.inobt_leaf.specs.declared.chunk.ChunkRec.{ChunkRec}
 use Rattle.inobt_leaf.specs.Chunks.{IsLeaf}
 use Rattle.inobt_leaf.specs.Pages.{chunks_in}
-use Rattle.inobt_leaf.specs.Pages.{spelling as page_spelling}
+use Rattle.inobt_leaf.specs.Pages.{encoding as page_encoding}
 use Rattle.life_table.specs.declared.table.Table.{Table}
 use Rattle.life_table.specs.Table.{Group, group_of}
 use Rattle.life_table.specs.Space.{times}
 use Rattle.sound_image.specs.Places.{bytes_at, bytes_from, part, sector_in}
 use Rattle.sound_image.specs.Reading.{header_of, page_sector, records_of}
 use Rattle.sound_image.specs.Rules.{IsHeaderRight, IsPageRight, AreCountsRight, IsInData}
-use Rattle.sound_image.specs.Spelling.{Layouts, list_of, head_of, record_of, header_for, page_of, page_place, page_bytes, spelled}
+use Rattle.sound_image.specs.Encoding.{Layouts, list_of, head_of, record_of, header_for, page_of, page_place, page_bytes, encoded}
 use Rattle.sound_image.proofs.Groups.{times_here}
 use Rattle.sound_image.proofs.Leaves.{free_bound, free_sum, all_in_data_blocks}
 use Rattle.sound_image.proofs.Metadata.{at_header, at_page}
@@ -65,20 +65,20 @@ header_fits g t layouts image group r =
       uuid = r.uuid;
     }
 
-pub header_spelled : (l : Lower) (g : Geometry) (t : Table) (layouts : Layouts) (image : List Sector) (group : ℕ) → IsReady g t layouts image group
-    → Spells (bytes_at (spelled g t layouts image) (sector_in g group 2)) (header_for g group (group_of t group) layouts)
-header_spelled l g t layouts image group r =
+pub header_encoded : (l : Lower) (g : Geometry) (t : Table) (layouts : Layouts) (image : List Sector) (group : ℕ) → IsReady g t layouts image group
+    → Encodes (bytes_at (encoded g t layouts image) (sector_in g group 2)) (header_for g group (group_of t group) layouts)
+header_encoded l g t layouts image group r =
     let agi = header_for g group (group_of t group) layouts in
     let least = r.least in
-    subst (λ (bytes : List ℕ). Spells bytes agi)
-    (sym (at_metadata g t layouts image group 2 (spelling agi) r.size r.below (omega arith) (at_header g layouts group (group_of t group))))
-    (l.headers.spelled agi (header_allowed g group (group_of t group) layouts r.page_low r.page_high) (header_fits g t layouts image group r))
+    subst (λ (bytes : List ℕ). Encodes bytes agi)
+    (sym (at_metadata g t layouts image group 2 (encoding agi) r.size r.below (omega arith) (at_header g layouts group (group_of t group))))
+    (l.headers.encoded agi (header_allowed g group (group_of t group) layouts r.page_low r.page_high) (header_fits g t layouts image group r))
 
 pub header_is : (l : Lower) (g : Geometry) (t : Table) (layouts : Layouts) (image : List Sector) (group : ℕ) → IsReady g t layouts image group
-    → header_of g (spelled g t layouts image) group ≡ header_for g group (group_of t group) layouts
+    → header_of g (encoded g t layouts image) group ≡ header_for g group (group_of t group) layouts
 unfolding header_of
 header_is l g t layouts image group r =
-    l.headers.read (bytes_at (spelled g t layouts image) (sector_in g group 2)) (header_for g group (group_of t group) layouts) (header_spelled l g t layouts image group r)
+    l.headers.read (bytes_at (encoded g t layouts image) (sector_in g group 2)) (header_for g group (group_of t group) layouts) (header_encoded l g t layouts image group r)
 
 record IsFor (g : Geometry) (layouts : Layouts) (group : ℕ) (agi : Agi) : Type 0 where
   own_group : agi.group ≡ group
@@ -91,15 +91,15 @@ unfolding header_for
 is_for g group chunks layouts = record { own_group = refl; blocks = refl; uuid = refl; root = refl }
 
 header_read_for : (l : Lower) (g : Geometry) (t : Table) (layouts : Layouts) (image : List Sector) (group : ℕ) → IsReady g t layouts image group
-    → IsFor g layouts group (header_of g (spelled g t layouts image) group)
+    → IsFor g layouts group (header_of g (encoded g t layouts image) group)
 header_read_for l g t layouts image group r = subst (IsFor g layouts group) (sym (header_is l g t layouts image group r)) (is_for g group (group_of t group) layouts)
 
 pub header_right : (l : Lower) (g : Geometry) (t : Table) (layouts : Layouts) (image : List Sector) (group : ℕ) → IsReady g t layouts image group
-    → IsHeaderRight g (spelled g t layouts image) group
+    → IsHeaderRight g (encoded g t layouts image) group
 header_right l g t layouts image group r =
     let is = header_read_for l g t layouts image group r in
     record {
-      spelled = subst (Spells (bytes_at (spelled g t layouts image) (sector_in g group 2))) (sym (header_is l g t layouts image group r)) (header_spelled l g t layouts image group r);
+      encoded = subst (Encodes (bytes_at (encoded g t layouts image) (sector_in g group 2))) (sym (header_is l g t layouts image group r)) (header_encoded l g t layouts image group r);
       own_group = is.own_group;
       blocks = is.blocks;
       uuid = is.uuid;
@@ -108,7 +108,7 @@ header_right l g t layouts image group r =
 -- ---- the page
 
 pub page_sector_is : (l : Lower) (g : Geometry) (t : Table) (layouts : Layouts) (image : List Sector) (group : ℕ) → IsReady g t layouts image group
-    → page_sector g (spelled g t layouts image) group ≡ sector_in g group (page_place layouts group)
+    → page_sector g (encoded g t layouts image) group ≡ sector_in g group (page_place layouts group)
 unfolding page_sector page_place
 page_sector_is l g t layouts image group r = ap (λ (root : ℕ). sector_in g group (8 * root)) (header_read_for l g t layouts image group r).root
 
@@ -117,35 +117,35 @@ unfolding sector_in
 sector_more g group place k = omega arith
 
 pub page_is : (l : Lower) (g : Geometry) (t : Table) (layouts : Layouts) (image : List Sector) (group : ℕ) → IsReady g t layouts image group
-    → bytes_from (spelled g t layouts image) (sector_in g group (page_place layouts group)) 8 ≡ page_spelling (map record_of (group_of t group)) group (sector_in g group (page_place layouts group)) g.uuid
+    → bytes_from (encoded g t layouts image) (sector_in g group (page_place layouts group)) 8 ≡ page_encoding (map record_of (group_of t group)) group (sector_in g group (page_place layouts group)) g.uuid
 unfolding page_bytes
 page_is l g t layouts image group r =
     let least = r.least in
     let high = r.page_high in
-    bytes_from_parts (spelled g t layouts image) (page_bytes g layouts group (group_of t group)) (sector_in g group (page_place layouts group)) 8
+    bytes_from_parts (encoded g t layouts image) (page_bytes g layouts group (group_of t group)) (sector_in g group (page_place layouts group)) 8
     (l.pages.long (map record_of (group_of t group)) group (sector_in g group (page_place layouts group)) g.uuid r.leaf r.uuid)
-    (λ k lt. ap (bytes_at (spelled g t layouts image)) (sector_more g group (page_place layouts group) k)
+    (λ k lt. ap (bytes_at (encoded g t layouts image)) (sector_more g group (page_place layouts group) k)
     ∙ at_metadata g t layouts image group (page_place layouts group + k) (part k (page_bytes g layouts group (group_of t group))) r.size r.below (omega arith) (at_page g layouts group (group_of t group) k r.page_low lt))
 
 pub records_are : (l : Lower) (g : Geometry) (t : Table) (layouts : Layouts) (image : List Sector) (group : ℕ) → IsReady g t layouts image group
-    → records_of g (spelled g t layouts image) group ≡ map record_of (group_of t group)
+    → records_of g (encoded g t layouts image) group ≡ map record_of (group_of t group)
 unfolding records_of
 records_are l g t layouts image group r =
-    ap (λ (s : ℕ). chunks_in (bytes_from (spelled g t layouts image) s 8)) (page_sector_is l g t layouts image group r)
+    ap (λ (s : ℕ). chunks_in (bytes_from (encoded g t layouts image) s 8)) (page_sector_is l g t layouts image group r)
     ∙ ap chunks_in (page_is l g t layouts image group r)
     ∙ l.pages.read (map record_of (group_of t group)) group (sector_in g group (page_place layouts group)) g.uuid r.leaf r.uuid
 
 pub page_right : (l : Lower) (g : Geometry) (t : Table) (layouts : Layouts) (image : List Sector) (group : ℕ) → IsReady g t layouts image group
-    → IsPageRight g (spelled g t layouts image) group
+    → IsPageRight g (encoded g t layouts image) group
 page_right l g t layouts image group r =
-    let new = spelled g t layouts image in
+    let new = encoded g t layouts image in
     let records = sym (records_are l g t layouts image group r) in
     let at = page_sector_is l g t layouts image group r in
     record {
       leaf = subst IsLeaf records r.leaf;
-      spelled = ap (λ (s : ℕ). bytes_from new s 8) at ∙ page_is l g t layouts image group r
-          ∙ ap (λ (cs : List ChunkRec). page_spelling cs group (sector_in g group (page_place layouts group)) g.uuid) records
-          ∙ ap (λ (s : ℕ). page_spelling (records_of g new group) group s g.uuid) (sym at);
+      encoded = ap (λ (s : ℕ). bytes_from new s 8) at ∙ page_is l g t layouts image group r
+          ∙ ap (λ (cs : List ChunkRec). page_encoding cs group (sector_in g group (page_place layouts group)) g.uuid) records
+          ∙ ap (λ (s : ℕ). page_encoding (records_of g new group) group s g.uuid) (sym at);
       in_data = subst (λ (cs : List ChunkRec). (k : ℕ) (d : ChunkRec) → k < length cs → IsInData g.blocks (get_or cs k d)) records
           (all_in_data_blocks g.blocks (group_of t group) r.is_group.chunks r.data_of);
     }
@@ -161,9 +161,9 @@ unfolding header_for
 counted g group chunks layouts = record { count_is = ap (λ (n : ℕ). 64 * n) (sym (length-map chunks record_of)); free_is = sym (free_sum chunks) }
 
 pub counts_right : (l : Lower) (g : Geometry) (t : Table) (layouts : Layouts) (image : List Sector) (group : ℕ) → IsReady g t layouts image group
-    → AreCountsRight g (spelled g t layouts image) group
+    → AreCountsRight g (encoded g t layouts image) group
 counts_right l g t layouts image group r =
     let c =
-    subst (λ (cs : List ChunkRec). Counts (header_of g (spelled g t layouts image) group).count (header_of g (spelled g t layouts image) group).free cs) (sym (records_are l g t layouts image group r))
+    subst (λ (cs : List ChunkRec). Counts (header_of g (encoded g t layouts image) group).count (header_of g (encoded g t layouts image) group).free cs) (sym (records_are l g t layouts image group r))
     (subst (λ (agi : Agi). Counts agi.count agi.free (map record_of (group_of t group))) (sym (header_is l g t layouts image group r)) (counted g group (group_of t group) layouts)) in
     record { count = c.count_is; free = c.free_is }

@@ -1,4 +1,4 @@
--- The inodes of an image that spells a table.
+-- The inodes of an image that encodes a table.
 use Rattle.std.proofs.Common.{◌≡◌, ◌<◌, ◌≤◌, ◌%◌, ◌^◌, ℕ, zero, suc, Bool, true, false, cond, List, [], ◌∷◌, Option, None, Some, length, get_or, eqb, refl, ap, sym, subst, ◌∙◌, arith, lit<}
 use Rattle.std.specs.Prelude.{IfSome}
 use Rattle.std.specs.Option.{option_map}
@@ -12,7 +12,7 @@ use Rattle.life_bytes.specs.declared.sector.Sector.{Sector}
 use Rattle.life_bytes.specs.TableLaws.{length-zeros}
 use Rattle.geometry.specs.declared.shape.Geometry.{Geometry}
 use Rattle.inode_core.specs.declared.shape.Core.{Core}
-use Rattle.inode_core.specs.Cores.{Spells, spelling, fork_of}
+use Rattle.inode_core.specs.Cores.{Encodes, encoding, fork_of}
 use Rattle.inode_core.specs.Reading.{core_in, CanStand}
 use Rattle.extent_fork.specs.declared.extent.Extent.{Extent}
 use Rattle.extent_fork.specs.Forks.{IsRun, AreRuns, HasFork, fork}
@@ -26,7 +26,7 @@ use Rattle.life_table.specs.Space.{times, row_blocks}
 use Rattle.life_table.specs.WellFormed.{IsRow, IsGroup}
 use Rattle.sound_image.specs.Places.{bytes_at, sector_in, number_in}
 use Rattle.sound_image.specs.Reading.{core_of, blocks_in}
-use Rattle.sound_image.specs.Spelling.{Layouts, list_of, head_of, next_in, core_for, fork_for, inode_sector, spelled}
+use Rattle.sound_image.specs.Encoding.{Layouts, list_of, head_of, next_in, core_for, fork_for, inode_sector, encoded}
 use Rattle.sound_image.proofs.Groups.{times_here, times_later, in_range, is_inode, row_blocks_used}
 use Rattle.sound_image.proofs.Metadata.{at_inode}
 use Rattle.sound_image.proofs.Ready.{Lower, IsReady, member_range}
@@ -143,32 +143,32 @@ can_stand l g t layouts image group agino x r found =
 
 pub sector_is : (l : Lower) (g : Geometry) (t : Table) (layouts : Layouts) (image : List Sector) (group agino : ℕ) (x : Inode) → IsReady g t layouts image group
     → inode_in (group_of t group) agino ≡ Some x
-    → bytes_at (spelled g t layouts image) (sector_in g group agino) ≡ spelling (core_for x.generation x.row (next_for layouts group agino)) (number_in group agino) g.uuid (fork_for group x.row)
+    → bytes_at (encoded g t layouts image) (sector_in g group agino) ≡ encoding (core_for x.generation x.row (next_for layouts group agino)) (number_in group agino) g.uuid (fork_for group x.row)
 unfolding inode_sector
 sector_is l g t layouts image group agino x r found =
     let range = in_range g.blocks (group_of t group) agino x r.data_of found in
     at_metadata g t layouts image group agino (inode_sector g layouts group agino x) r.size r.below (omega arith)
     (at_inode g layouts group (group_of t group) agino r.page_low (omega (arith, r.page_high)) ∙ ap (option_map (inode_sector g layouts group agino)) found)
 
--- what the sector of an inode spells
+-- what the sector of an inode encodes
 pub record Stored (g : Geometry) (new : List Sector) (layouts : Layouts) (group agino : ℕ) (x : Inode) : Type 0 where
   pub core_is : core_of g new group agino ≡ core_for x.generation x.row (next_for layouts group agino)
-  pub spelled : Spells (bytes_at new (sector_in g group agino)) (number_in group agino) g.uuid (core_for x.generation x.row (next_for layouts group agino))
+  pub encoded : Encodes (bytes_at new (sector_in g group agino)) (number_in group agino) g.uuid (core_for x.generation x.row (next_for layouts group agino))
   pub fork_is : fork_of (bytes_at new (sector_in g group agino)) ≡ fork_for group x.row
 
 pub stored : (l : Lower) (g : Geometry) (t : Table) (layouts : Layouts) (image : List Sector) (group agino : ℕ) (x : Inode) → IsReady g t layouts image group
-    → inode_in (group_of t group) agino ≡ Some x → Stored g (spelled g t layouts image) layouts group agino x
+    → inode_in (group_of t group) agino ≡ Some x → Stored g (encoded g t layouts image) layouts group agino x
 unfolding core_of
 stored l g t layouts image group agino x r found =
-    let new = spelled g t layouts image in
+    let new = encoded g t layouts image in
     let core = core_for x.generation x.row (next_for layouts group agino) in
     let can = can_stand l g t layouts image group agino x r found in
     let at = sector_is l g t layouts image group agino x r found in
-    let spells = l.cores.spelled core (number_in group agino) g.uuid (fork_for group x.row) can in
+    let encodes = l.cores.encoded core (number_in group agino) g.uuid (fork_for group x.row) can in
     record {
-      core_is = ap core_in at ∙ l.cores.read (spelling core (number_in group agino) g.uuid (fork_for group x.row)) g.uuid (number_in group agino) core
-          (l.cores.long core (number_in group agino) g.uuid (fork_for group x.row) can) r.uuid spells;
-      spelled = subst (λ (bytes : List ℕ). Spells bytes (number_in group agino) g.uuid core) (sym at) spells;
+      core_is = ap core_in at ∙ l.cores.read (encoding core (number_in group agino) g.uuid (fork_for group x.row)) g.uuid (number_in group agino) core
+          (l.cores.long core (number_in group agino) g.uuid (fork_for group x.row) can) r.uuid encodes;
+      encoded = subst (λ (bytes : List ℕ). Encodes bytes (number_in group agino) g.uuid core) (sym at) encodes;
       fork_is = ap fork_of at ∙ l.cores.same_fork core (number_in group agino) g.uuid (fork_for group x.row) can;
     }
 
@@ -192,15 +192,15 @@ unfolding fork_for
 fork_says group o row live = ap (fork_for group) live
 
 pub stored_runs : (l : Lower) (g : Geometry) (t : Table) (layouts : Layouts) (image : List Sector) (group agino : ℕ) (x : Inode) (row : Row) → IsReady g t layouts image group
-    → inode_in (group_of t group) agino ≡ Some x → x.row ≡ Some row → StoredRuns g (spelled g t layouts image) group agino row
+    → inode_in (group_of t group) agino ≡ Some x → x.row ≡ Some row → StoredRuns g (encoded g t layouts image) group agino row
 stored_runs l g t layouts image group agino x row r found live =
-    let new = spelled g t layouts image in
+    let new = encoded g t layouts image in
     let s = stored l g t layouts image group agino x r found in
     let says = core_says (core_of g new group agino) x.generation (next_for layouts group agino) x.row row s.core_is live in
     let sr = row_stored l g t layouts image group agino x row r found live in
     let few = sr.is.runs in
     let has : HasFork (bytes_at new (sector_in g group agino)) (length (runs row.blocks)) group (runs row.blocks) =
-    record { runs = sr.runs; many = refl; spelled = s.fork_is ∙ fork_says group x.row row live } in
+    record { runs = sr.runs; many = refl; encoded = s.fork_is ∙ fork_says group x.row row live } in
     record {
       extents = says.0;
       links = says.1;
@@ -210,15 +210,15 @@ stored_runs l g t layouts image group agino x row r found live =
     }
 
 pub next_is : (l : Lower) (g : Geometry) (t : Table) (layouts : Layouts) (image : List Sector) (group agino : ℕ) (x : Inode) (row : Row) → IsReady g t layouts image group
-    → inode_in (group_of t group) agino ≡ Some x → x.row ≡ Some row → (core_of g (spelled g t layouts image) group agino).next ≡ next_for layouts group agino
+    → inode_in (group_of t group) agino ≡ Some x → x.row ≡ Some row → (core_of g (encoded g t layouts image) group agino).next ≡ next_for layouts group agino
 next_is l g t layouts image group agino x row r found live =
-    let new = spelled g t layouts image in
+    let new = encoded g t layouts image in
     (core_says (core_of g new group agino) x.generation (next_for layouts group agino) x.row row (stored l g t layouts image group agino x r found).core_is live).3
 
 pub blocks_are : (l : Lower) (g : Geometry) (t : Table) (layouts : Layouts) (image : List Sector) (group agino : ℕ) (x : Inode) (row : Row) → IsReady g t layouts image group
-    → inode_in (group_of t group) agino ≡ Some x → x.row ≡ Some row → blocks_in g (spelled g t layouts image) group agino ≡ row.blocks
+    → inode_in (group_of t group) agino ≡ Some x → x.row ≡ Some row → blocks_in g (encoded g t layouts image) group agino ≡ row.blocks
 unfolding blocks_in
 blocks_are l g t layouts image group agino x row r found live =
-    let new = spelled g t layouts image in
+    let new = encoded g t layouts image in
     let s = stored_runs l g t layouts image group agino x row r found live in
     ap (λ (n : ℕ). flat_map blocks_of (runs_in n (bytes_at new (sector_in g group agino)))) s.extents ∙ ap (flat_map blocks_of) s.read ∙ l.forks.blocks row.blocks

@@ -15,7 +15,7 @@ use Rattle.life_table.specs.Table.{inode_in}
 use Rattle.life_table.specs.Space.{times}
 use Rattle.sound_image.specs.Reading.{core_of, group_read, inode_at, row_at}
 use Rattle.sound_image.specs.Rules.{pointer, IsMember, AreMembers, Ends, IsMet}
-use Rattle.sound_image.specs.Spelling.{next_in, is_unlinked, is_unlinked_row}
+use Rattle.sound_image.specs.Encoding.{next_in, is_unlinked, is_unlinked_row}
 use Rattle.sound_image.proofs.Buckets.{IsOnce, next_at, place_of}
 use Rattle.sound_image.proofs.Groups.{times-cons, times-nil}
 use Rattle.sound_image.proofs.Inodes.{times_get}

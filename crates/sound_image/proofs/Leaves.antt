@@ -15,7 +15,7 @@ use Rattle.life_table.specs.declared.table.Chunk.{Chunk}
 use Rattle.life_table.specs.Table.{Group}
 use Rattle.life_table.specs.WellFormed.{IsChunk, Ascends}
 use Rattle.sound_image.specs.Rules.{IsInData}
-use Rattle.sound_image.specs.Spelling.{mask_of, free_count, record_of}
+use Rattle.sound_image.specs.Encoding.{mask_of, free_count, record_of}
 use Rattle.sound_image.proofs.Groups.{InData}
 
 abbrev pub unused : Inode → Bool

@@ -13,7 +13,7 @@ pub mod Whole
 pub mod Found
 pub mod Tables
 pub mod NoOpens
-pub mod Spelled
+pub mod Encoded
 pub mod Layouts
 pub mod Again
 pub mod Opens

@@ -4,12 +4,12 @@ use Rattle.std.specs.Prelude.{◌&&◌}
 use Rattle.std.specs.Option.{option_map}
 use Rattle.std.proofs.lemmas.Bool.{and_left, lt-leb, lt-ltb, le-ltb, ne_eqb, cond-true, cond-false, and_right, and_from, le-leb}
 use Rattle.geometry.specs.declared.shape.Geometry.{Geometry}
-use Rattle.ag_header.specs.Headers.{spelling as header_spelling}
+use Rattle.ag_header.specs.Headers.{encoding as header_encoding}
 use Rattle.free_map.specs.Bitmap.{bitmap}
 use Rattle.life_table.specs.Table.{Group, inode_in}
 use Rattle.sound_image.specs.Places.{part}
 use Rattle.sound_image.specs.Rules.{free_set}
-use Rattle.sound_image.specs.Spelling.{Layouts, header_for, inode_sector, page_place, page_bytes, metadata}
+use Rattle.sound_image.specs.Encoding.{Layouts, header_for, inode_sector, page_place, page_bytes, metadata}
 
 abbrev pub is_bitmap : ℕ → Bool
 is_bitmap place = leb 8 place && ltb place 12
@@ -22,13 +22,13 @@ abbrev pub chosen : Bool → Bool → Bool → Option (List ℕ) → Option (Lis
 chosen a b c header map_part page inode = cond a header (cond b map_part (cond c page inode))
 
 pub by_tests : (g : Geometry) (layouts : Layouts) (group : ℕ) (chunks : Group) (place : ℕ) → metadata g layouts group chunks place
-    ≡ chosen (eqb place 2) (is_bitmap place) (is_page (page_place layouts group) place) (Some (header_spelling (header_for g group chunks layouts)))
+    ≡ chosen (eqb place 2) (is_bitmap place) (is_page (page_place layouts group) place) (Some (header_encoding (header_for g group chunks layouts)))
     (Some (part (place - 8) (bitmap (free_set g.blocks chunks)))) (Some (part (place - page_place layouts group) (page_bytes g layouts group chunks)))
     (option_map (inode_sector g layouts group place) (inode_in chunks place))
 unfolding metadata
 by_tests g layouts group chunks place = refl
 
-pub at_header : (g : Geometry) (layouts : Layouts) (group : ℕ) (chunks : Group) → metadata g layouts group chunks 2 ≡ Some (header_spelling (header_for g group chunks layouts))
+pub at_header : (g : Geometry) (layouts : Layouts) (group : ℕ) (chunks : Group) → metadata g layouts group chunks 2 ≡ Some (header_encoding (header_for g group chunks layouts))
 at_header g layouts group chunks = by_tests g layouts group chunks 2
 
 within : (low high place : ℕ) → low ≤ place → place < high → (leb low place && ltb place high) ≡ true

@@ -53,5 +53,5 @@ no_opens g image = ap (table_made g.version g.blocks) (same_all (group_read g im
 
 pub one_table : SuperblocksTell → (a b : Geometry) (image : List Sector) (t u : Table) → Stands a image t → Stands b image u → (a ≡ b) × (t ≡ u)
 one_table tell a b image t u p q =
-    let same : a ≡ b = tell a b p.superblock.shape q.superblock.shape (sym p.superblock.spelled ∙ q.superblock.spelled) in
+    let same : a ≡ b = tell a b p.superblock.shape q.superblock.shape (sym p.superblock.encoded ∙ q.superblock.encoded) in
     (same, sym p.rows ∙ ap (λ (g : Geometry). rows_of g image) same ∙ q.rows)

@@ -1,4 +1,4 @@
--- Opens are not spelled: a table and the same without them have the same sectors.
+-- Opens are not encoded: a table and the same without them have the same sectors.
 use Rattle.std.proofs.Common.{◌≡◌, ◌<◌, ◌+◌, ◌-◌, ◌*◌, ◌/◌, ◌%◌, ℕ, Bool, cond, eqb, ltb, List, [], ◌∷◌, Option, None, Some, length, map, inl, inr, refl, ap, sym, ◌∙◌, arith}
 use Rattle.std.specs.Prelude.{is_none, count_ones, sum_by, unwrap_or}
 use Rattle.std.specs.Option.{option_map}
@@ -10,9 +10,9 @@ use Rattle.life_bytes.specs.declared.sector.Sector.{Sector}
 use Rattle.geometry.specs.declared.shape.Geometry.{Geometry}
 use Rattle.geometry.specs.Places.{group_sectors}
 use Rattle.ag_header.specs.declared.agi.Agi.{Agi}
-use Rattle.ag_header.specs.Headers.{spelling as header_spelling}
+use Rattle.ag_header.specs.Headers.{encoding as header_encoding}
 use Rattle.inobt_leaf.specs.declared.chunk.ChunkRec.{ChunkRec}
-use Rattle.inobt_leaf.specs.Pages.{spelling as page_spelling}
+use Rattle.inobt_leaf.specs.Pages.{encoding as page_encoding}
 use Rattle.free_map.specs.Bitmap.{number_of_bits, bitmap}
 use Rattle.life_table.specs.declared.types.Row.{Row}
 use Rattle.life_table.specs.declared.table.Inode.{Inode}
@@ -22,7 +22,7 @@ use Rattle.life_table.specs.Table.{Group, group_of, inode_in}
 use Rattle.life_table.specs.History.{closed, closed_inode, closed_row}
 use Rattle.sound_image.specs.Places.{bytes_at, part, sector_in}
 use Rattle.sound_image.specs.Rules.{free_set}
-use Rattle.sound_image.specs.Spelling.{Layouts, mask_of, free_count, record_of, header_for, core_for, fork_for, inode_sector, page_place, page_bytes, metadata, spelled, spelled_bytes}
+use Rattle.sound_image.specs.Encoding.{Layouts, mask_of, free_count, record_of, header_for, core_for, fork_for, inode_sector, page_place, page_bytes, metadata, encoded, encoded_bytes}
 use Rattle.sound_image.proofs.Leaves.{unused, mask_ones}
 use Rattle.sound_image.proofs.Metadata.{is_bitmap, is_page, chosen, by_tests}
 use Rattle.sound_image.proofs.Right.{free_set_closed}
@@ -73,7 +73,7 @@ header_closed g group chunks layouts =
 
 page_closed : (g : Geometry) (layouts : Layouts) (group : ℕ) (chunks : Group) → page_bytes g layouts group (map closed_chunk chunks) ≡ page_bytes g layouts group chunks
 unfolding page_bytes
-page_closed g layouts group chunks = ap (λ (rs : List ChunkRec). page_spelling rs group (sector_in g group (page_place layouts group)) g.uuid) (records_closed chunks)
+page_closed g layouts group chunks = ap (λ (rs : List ChunkRec). page_encoding rs group (sector_in g group (page_place layouts group)) g.uuid) (records_closed chunks)
 
 core_closed : (g : Geometry) (layouts : Layouts) (group agino : ℕ) (x : Inode) → inode_sector g layouts group agino (closed_inode x) ≡ inode_sector g layouts group agino x
 unfolding inode_sector core_for fork_for
@@ -97,12 +97,12 @@ metadata_closed g layouts group chunks place =
     let p : ℕ = place - page_place layouts group in
     let bits : List ℕ = part (place - 8) (bitmap (free_set g.blocks old)) in
     by_tests g layouts group old place
-    ∙ ap (λ (agi : Agi). chosen a b c (Some (header_spelling agi)) (Some bits) (Some (part p (page_bytes g layouts group old))) (option_map f (inode_in old place))) (header_closed g group chunks layouts)
-    ∙ ap (λ (set : List Bool). chosen a b c (Some (header_spelling (header_for g group chunks layouts))) (Some (part (place - 8) (bitmap set))) (Some (part p (page_bytes g layouts group old)))
+    ∙ ap (λ (agi : Agi). chosen a b c (Some (header_encoding agi)) (Some bits) (Some (part p (page_bytes g layouts group old))) (option_map f (inode_in old place))) (header_closed g group chunks layouts)
+    ∙ ap (λ (set : List Bool). chosen a b c (Some (header_encoding (header_for g group chunks layouts))) (Some (part (place - 8) (bitmap set))) (Some (part p (page_bytes g layouts group old)))
     (option_map f (inode_in old place))) (free_set_closed g.blocks chunks)
-    ∙ ap (λ (page : List ℕ). chosen a b c (Some (header_spelling (header_for g group chunks layouts))) (Some (part (place - 8) (bitmap (free_set g.blocks chunks)))) (Some (part p page))
+    ∙ ap (λ (page : List ℕ). chosen a b c (Some (header_encoding (header_for g group chunks layouts))) (Some (part (place - 8) (bitmap (free_set g.blocks chunks)))) (Some (part p page))
     (option_map f (inode_in old place))) (page_closed g layouts group chunks)
-    ∙ ap (λ (o : Option (List ℕ)). chosen a b c (Some (header_spelling (header_for g group chunks layouts))) (Some (part (place - 8) (bitmap (free_set g.blocks chunks))))
+    ∙ ap (λ (o : Option (List ℕ)). chosen a b c (Some (header_encoding (header_for g group chunks layouts))) (Some (part (place - 8) (bitmap (free_set g.blocks chunks))))
     (Some (part p (page_bytes g layouts group chunks))) o)
     (ap (option_map f) (closed_in chunks place) ∙ option_closed f (core_closed g layouts group place) (inode_in chunks place))
     ∙ sym (by_tests g layouts group chunks place)
@@ -117,8 +117,8 @@ group_of_closed t group =
           ∙ sym (ap (map closed_chunk) (get_or_past t.groups group [] past))
     ]
 
-bytes_closed : (g : Geometry) (t : Table) (layouts : Layouts) (image : List Sector) (s : ℕ) → spelled_bytes g (closed t) layouts image s ≡ spelled_bytes g t layouts image s
-unfolding spelled_bytes
+bytes_closed : (g : Geometry) (t : Table) (layouts : Layouts) (image : List Sector) (s : ℕ) → encoded_bytes g (closed t) layouts image s ≡ encoded_bytes g t layouts image s
+unfolding encoded_bytes
 bytes_closed g t layouts image s =
     let group : ℕ = s / group_sectors g in
     let place : ℕ = s % group_sectors g in
@@ -126,12 +126,12 @@ bytes_closed g t layouts image s =
     ap (λ (o : Option (List ℕ)). cond (ltb s (g.groups * group_sectors g)) (unwrap_or o old) old)
     (ap (λ (chunks : Group). metadata g layouts group chunks place) (group_of_closed t group) ∙ metadata_closed g layouts group (group_of t group) place)
 
-pub spelled_closed : (g : Geometry) (t : Table) (layouts : Layouts) (image : List Sector) → spelled g (closed t) layouts image ≡ spelled g t layouts image
-unfolding spelled
-spelled_closed g t layouts image =
+pub encoded_closed : (g : Geometry) (t : Table) (layouts : Layouts) (image : List Sector) → encoded g (closed t) layouts image ≡ encoded g t layouts image
+unfolding encoded
+encoded_closed g t layouts image =
     let n : ℕ = length image in
-    let f : ℕ → Sector = λ s. sector_of (spelled_bytes g (closed t) layouts image s) in
-    let h : ℕ → Sector = λ s. sector_of (spelled_bytes g t layouts image s) in
+    let f : ℕ → Sector = λ s. sector_of (encoded_bytes g (closed t) layouts image s) in
+    let h : ℕ → Sector = λ s. sector_of (encoded_bytes g t layouts image s) in
     same_lists _ _ (length-map-range_with_len f 0 n ∙ sym (length-map-range_with_len h 0 n))
     (λ s d lt.
     let within : s < n = omega (arith, lt, length-map-range_with_len f 0 n) in

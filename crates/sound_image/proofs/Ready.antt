@@ -1,4 +1,4 @@
--- What a group of a table that can be spelled is known to be.
+-- What a group of a table that can be encoded is known to be.
 use Rattle.std.proofs.Common.{◌≡◌, ◌<◌, ◌≤◌, ◌*◌, ◌%◌, ℕ, Bool, true, false, cond, List, [], Option, None, Some, length, map, eqb, refl, ap, sym, subst, ◌∙◌, arith}
 use Rattle.std.specs.Prelude.{◌&&◌}
 use Rattle.std.specs.List.{AllByRecursion}
@@ -19,7 +19,7 @@ use Rattle.life_table.specs.declared.table.Table.{Table}
 use Rattle.life_table.specs.Table.{Group, group_of, inode_in}
 use Rattle.life_table.specs.Space.{times}
 use Rattle.life_table.specs.WellFormed.{IsGroup}
-use Rattle.sound_image.specs.Spelling.{page_place, Layouts, CanSpell, list_of, is_unlinked, is_unlinked_row, record_of}
+use Rattle.sound_image.specs.Encoding.{page_place, Layouts, CanEncode, list_of, is_unlinked, is_unlinked_row, record_of}
 use Rattle.sound_image.proofs.Groups.{InData, all_in_data, in_range}
 use Rattle.sound_image.proofs.Leaves.{leaf_right}
 
@@ -46,12 +46,12 @@ pub record IsReady (g : Geometry) (t : Table) (layouts : Layouts) (image : List 
   pub members : (bucket agino : ℕ) → bucket < 64
       → times agino (list_of layouts group bucket) ≡ cond (eqb (agino % 64) bucket && is_unlinked (inode_in (group_of t group) agino)) 1 0
 
-page_range : (g : Geometry) (t : Table) (layouts : Layouts) (image : List Sector) (group : ℕ) → CanSpell g t layouts image → group < length t.groups
+page_range : (g : Geometry) (t : Table) (layouts : Layouts) (image : List Sector) (group : ℕ) → CanEncode g t layouts image → group < length t.groups
     → (16 ≤ page_place layouts group) × (page_place layouts group ≤ 136)
 unfolding page_place
 page_range g t layouts image group can lt = let range = can.layouts_of.pages group lt in (omega (arith, range.0), omega (arith, range.1))
 
-pub ready : (g : Geometry) (t : Table) (layouts : Layouts) (image : List Sector) (group : ℕ) → CanSpell g t layouts image → group < g.groups → IsReady g t layouts image group
+pub ready : (g : Geometry) (t : Table) (layouts : Layouts) (image : List Sector) (group : ℕ) → CanEncode g t layouts image → group < g.groups → IsReady g t layouts image group
 ready g t layouts image group can lt =
     let few = can.shape.blocks in
     let many = can.shape.groups in

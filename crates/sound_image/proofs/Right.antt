@@ -1,4 +1,4 @@
--- The cores, forks, blocks and bitmaps of an image that spells a table are right.
+-- The cores, forks, blocks and bitmaps of an image that encodes a table are right.
 use Rattle.std.proofs.Common.{◌≡◌, ◌<◌, ◌≤◌, ◌+◌, ℕ, Bool, List, [], ◌∷◌, ◌++◌, Option, None, Some, length, map, get_or, refl, ap, sym, subst, ◌∙◌, arith}
 use Rattle.std.specs.Prelude.{is_some}
 use Rattle.std.specs.List.{range_with_len}
@@ -6,7 +6,7 @@ use Rattle.std.proofs.lemmas.List.{length-map, get_or-map}
 use Rattle.life_bytes.specs.declared.sector.Sector.{Sector}
 use Rattle.geometry.specs.declared.shape.Geometry.{Geometry}
 use Rattle.inode_core.specs.declared.shape.Core.{Core}
-use Rattle.inode_core.specs.Cores.{Spells}
+use Rattle.inode_core.specs.Cores.{Encodes}
 use Rattle.extent_fork.specs.Forks.{HasFork}
 use Rattle.extent_fork.specs.Reading.{runs_in}
 use Rattle.extent_fork.specs.Runs.{runs}
@@ -21,7 +21,7 @@ use Rattle.life_table.specs.History.{closed_inode, closed_row}
 use Rattle.sound_image.specs.Places.{bytes_at, part, sector_in, number_in}
 use Rattle.sound_image.specs.Reading.{inode_at, row_at}
 use Rattle.sound_image.specs.Rules.{IsCoreRight, IsForkRight, AreBlocksAlone, IsIn, free_set, IsBitmapRight}
-use Rattle.sound_image.specs.Spelling.{Layouts, core_for, spelled}
+use Rattle.sound_image.specs.Encoding.{Layouts, core_for, encoded}
 use Rattle.sound_image.proofs.Groups.{times-nil, row_blocks_used, two_rows_used, chunk_and_row_used}
 use Rattle.sound_image.proofs.Inodes.{stored, stored_runs, blocks_are, next_for, data_of_row}
 use Rattle.sound_image.proofs.Leaves.{no_chunk}
@@ -38,22 +38,22 @@ live_for generation next None = refl
 live_for generation next (Some row) = refl
 
 pub core_right : (l : Lower) (g : Geometry) (t : Table) (layouts : Layouts) (image : List Sector) (group agino : ℕ) (inode : Inode) → IsReady g t layouts image group
-    → inode_at g (spelled g t layouts image) group agino ≡ Some inode → IsCoreRight g (spelled g t layouts image) group agino inode
+    → inode_at g (encoded g t layouts image) group agino ≡ Some inode → IsCoreRight g (encoded g t layouts image) group agino inode
 core_right l g t layouts image group agino inode r e =
-    let new = spelled g t layouts image in
+    let new = encoded g t layouts image in
     let x = is_read l g t layouts image group agino inode r e in
     let s = stored l g t layouts image group agino x.held r x.found in
     record {
-      spelled = subst (λ (core : Core). Spells (bytes_at new (sector_in g group agino)) (number_in group agino) g.uuid core) (sym s.core_is) s.spelled;
+      encoded = subst (λ (core : Core). Encodes (bytes_at new (sector_in g group agino)) (number_in group agino) g.uuid core) (sym s.core_is) s.encoded;
       live = ap (λ (core : Core). core.live) s.core_is ∙ live_for x.held.generation (next_for layouts group agino) x.held.row ∙ ap (λ (i : Inode). is_some i.row) (sym x.same);
     }
 
 -- ---- forks
 
 pub fork_right : (l : Lower) (g : Geometry) (t : Table) (layouts : Layouts) (image : List Sector) (group agino : ℕ) (row : Row) → IsReady g t layouts image group
-    → row_at g (spelled g t layouts image) group agino ≡ Some row → IsForkRight g (spelled g t layouts image) group agino
+    → row_at g (encoded g t layouts image) group agino ≡ Some row → IsForkRight g (encoded g t layouts image) group agino
 fork_right l g t layouts image group agino row r e =
-    let new = spelled g t layouts image in
+    let new = encoded g t layouts image in
     let bytes = bytes_at new (sector_in g group agino) in
     let x = is_row_read l g t layouts image group agino row r e in
     let s = stored_runs l g t layouts image group agino x.inode x.held r x.found x.live in
@@ -80,9 +80,9 @@ none_of b None some = absurd (omega (arith, times-nil b))
 none_of b (Some row) some = (row, refl)
 
 pub blocks_right : (l : Lower) (g : Geometry) (t : Table) (layouts : Layouts) (image : List Sector) (group agino : ℕ) (row : Row) → IsReady g t layouts image group
-    → row_at g (spelled g t layouts image) group agino ≡ Some row → AreBlocksAlone g (spelled g t layouts image) group agino row
+    → row_at g (encoded g t layouts image) group agino ≡ Some row → AreBlocksAlone g (encoded g t layouts image) group agino row
 blocks_right l g t layouts image group agino row r e =
-    let new = spelled g t layouts image in
+    let new = encoded g t layouts image in
     let chunks = group_of t group in
     let x = is_row_read l g t layouts image group agino row r e in
     let own : (b : ℕ) → times b (row_blocks x.inode.row) ≡ times b row.blocks = λ b. ap (times b) (own_blocks chunks agino row x) in
@@ -135,7 +135,7 @@ unfolding free_set
 free_set_closed blocks chunks = same_tests (is_free_block blocks (map closed_chunk chunks)) (is_free_block blocks chunks) (range_with_len 0 blocks) (free_closed blocks chunks)
 
 pub bitmap_right : (l : Lower) (g : Geometry) (t : Table) (layouts : Layouts) (image : List Sector) (group k : ℕ) → IsReady g t layouts image group → k < 4
-    → IsBitmapRight g (spelled g t layouts image) group k
+    → IsBitmapRight g (encoded g t layouts image) group k
 bitmap_right l g t layouts image group k r lt =
     let least = r.least in
     at_metadata g t layouts image group (8 + k) (part k (bitmap (free_set g.blocks (group_of t group)))) r.size r.below (omega arith) (at_bitmap g layouts group (group_of t group) k lt)

@@ -1,4 +1,4 @@
--- The rows, chunks and generations of an image that spells a table are the table's.
+-- The rows, chunks and generations of an image that encodes a table are the table's.
 use Rattle.std.proofs.Common.{◌≡◌, ◌<◌, ◌+◌, ◌%◌, ℕ, zero, suc, Bool, true, false, cond, List, [], ◌∷◌, Option, None, Some, length, map, get_or, eqb, refl, ap, sym, ◌∙◌, arith}
 use Rattle.std.specs.Prelude.{is_none}
 use Rattle.std.specs.Option.{option_map, option_and_then}
@@ -21,7 +21,7 @@ use Rattle.life_table.specs.Table.{Group, group_of, inode_in, start_of}
 use Rattle.life_table.specs.History.{closed, closed_inode, closed_row}
 use Rattle.life_table.specs.WellFormed.{IsChunk, Ascends}
 use Rattle.sound_image.specs.Reading.{core_of, blocks_in, inode_read, chunk_read, group_read, rows_of, inode_at, row_at}
-use Rattle.sound_image.specs.Spelling.{Layouts, CanSpell, mask_of, record_of, core_for, spelled}
+use Rattle.sound_image.specs.Encoding.{Layouts, CanEncode, mask_of, record_of, core_for, encoded}
 use Rattle.sound_image.proofs.Headers.{records_are}
 use Rattle.sound_image.proofs.Inodes.{stored, stored_runs, blocks_are, next_for}
 use Rattle.sound_image.proofs.Leaves.{unused, no_chunk, below_later}
@@ -77,10 +77,10 @@ unfolding mask_of
 mask_bit l inodes i d lt = l.bits.bit (map unused inodes) i ∙ get_or-map unused inodes i d false lt
 
 inode_is : (l : Lower) (g : Geometry) (t : Table) (layouts : Layouts) (image : List Sector) (group : ℕ) (c : Chunk) (i : ℕ) (x : Inode) → IsReady g t layouts image group
-    → inode_in (group_of t group) (c.start + i) ≡ Some x → is_set (mask_of c.inodes) i ≡ is_none x.row → inode_read g (spelled g t layouts image) group (record_of c) i ≡ closed_inode x
+    → inode_in (group_of t group) (c.start + i) ≡ Some x → is_set (mask_of c.inodes) i ≡ is_none x.row → inode_read g (encoded g t layouts image) group (record_of c) i ≡ closed_inode x
 unfolding inode_read record_of
 inode_is l g t layouts image group c i x r found bit =
-    let new = spelled g t layouts image in
+    let new = encoded g t layouts image in
     let a : ℕ = c.start + i in
     let core = core_of g new group a in
     let generation : core.generation ≡ x.generation =
@@ -102,10 +102,10 @@ no_inode : Inode
 no_inode = record { generation = 0; row = None }
 
 chunk_is : (l : Lower) (g : Geometry) (t : Table) (layouts : Layouts) (image : List Sector) (group k : ℕ) (d : Chunk) → IsReady g t layouts image group → k < length (group_of t group)
-    → chunk_read g (spelled g t layouts image) group (record_of (get_or (group_of t group) k d)) ≡ closed_chunk (get_or (group_of t group) k d)
+    → chunk_read g (encoded g t layouts image) group (record_of (get_or (group_of t group) k d)) ≡ closed_chunk (get_or (group_of t group) k d)
 unfolding chunk_read record_of
 chunk_is l g t layouts image group k d r lt =
-    let new = spelled g t layouts image in
+    let new = encoded g t layouts image in
     let c : Chunk = get_or (group_of t group) k d in
     let is = All-from_recursion IsChunk (group_of t group) r.is_group.chunks k d lt in
     let f : ℕ → Inode = inode_read g new group (record_of c) in
@@ -124,10 +124,10 @@ chunk_is l g t layouts image group k d r lt =
 -- ---- one group
 
 pub group_is : (l : Lower) (g : Geometry) (t : Table) (layouts : Layouts) (image : List Sector) (group : ℕ) → IsReady g t layouts image group
-    → group_read g (spelled g t layouts image) group ≡ map closed_chunk (group_of t group)
+    → group_read g (encoded g t layouts image) group ≡ map closed_chunk (group_of t group)
 unfolding group_read
 group_is l g t layouts image group r =
-    let new = spelled g t layouts image in
+    let new = encoded g t layouts image in
     let chunks = group_of t group in
     let f : ChunkRec → Chunk = chunk_read g new group in
     ap (map f) (records_are l g t layouts image group r)
@@ -148,10 +148,10 @@ table_made version blocks groups = record { version = version; blocks = blocks; 
 pub closed_is : (t : Table) → closed t ≡ table_made t.version t.blocks (map (map closed_chunk) t.groups)
 closed_is t = refl
 
-pub rows_are : (l : Lower) (g : Geometry) (t : Table) (layouts : Layouts) (image : List Sector) → CanSpell g t layouts image → rows_of g (spelled g t layouts image) ≡ closed t
+pub rows_are : (l : Lower) (g : Geometry) (t : Table) (layouts : Layouts) (image : List Sector) → CanEncode g t layouts image → rows_of g (encoded g t layouts image) ≡ closed t
 unfolding rows_of
 rows_are l g t layouts image can =
-    let new = spelled g t layouts image in
+    let new = encoded g t layouts image in
     let f : ℕ → Group = group_read g new in
     let groups : map f (range_with_len 0 g.groups) ≡ map (map closed_chunk) t.groups =
     same_lists (map f (range_with_len 0 g.groups)) (map (map closed_chunk) t.groups)
@@ -191,13 +191,13 @@ read_from None inode e = absurd (none-some inode e)
 read_from (Some x) inode e = (x, refl, sym (same_Some (closed_inode x) inode e))
 
 pub inode_at_is : (l : Lower) (g : Geometry) (t : Table) (layouts : Layouts) (image : List Sector) (group agino : ℕ) → IsReady g t layouts image group
-    → inode_at g (spelled g t layouts image) group agino ≡ option_map closed_inode (inode_in (group_of t group) agino)
+    → inode_at g (encoded g t layouts image) group agino ≡ option_map closed_inode (inode_in (group_of t group) agino)
 unfolding inode_at
 inode_at_is l g t layouts image group agino r =
     ap (λ (chunks : Group). inode_in chunks agino) (group_is l g t layouts image group r) ∙ closed_in (group_of t group) agino
 
 pub is_read : (l : Lower) (g : Geometry) (t : Table) (layouts : Layouts) (image : List Sector) (group agino : ℕ) (inode : Inode) → IsReady g t layouts image group
-    → inode_at g (spelled g t layouts image) group agino ≡ Some inode → IsRead (group_of t group) agino inode
+    → inode_at g (encoded g t layouts image) group agino ≡ Some inode → IsRead (group_of t group) agino inode
 is_read l g t layouts image group agino inode r e =
     let found = read_from (inode_in (group_of t group) agino) inode (sym (inode_at_is l g t layouts image group agino r) ∙ e) in
     record { held = found.0; found = found.1; same = found.2 }
@@ -223,7 +223,7 @@ row_of_inode None row e = absurd (none-some row e)
 row_of_inode (Some x) row e = let r = row_from x.row row e in (x, r.0, refl, r.1, r.2, r.3)
 
 pub is_row_read : (l : Lower) (g : Geometry) (t : Table) (layouts : Layouts) (image : List Sector) (group agino : ℕ) (row : Row) → IsReady g t layouts image group
-    → row_at g (spelled g t layouts image) group agino ≡ Some row → IsRowRead (group_of t group) agino row
+    → row_at g (encoded g t layouts image) group agino ≡ Some row → IsRowRead (group_of t group) agino row
 unfolding row_at
 is_row_read l g t layouts image group agino row r e =
     let found = row_of_inode (inode_in (group_of t group) agino) row (sym (ap (option_and_then (λ (inode : Inode). inode.row)) (inode_at_is l g t layouts image group agino r)) ∙ e) in

@@ -1,4 +1,4 @@
--- The sectors of an image that spells a table.
+-- The sectors of an image that encodes a table.
 use Rattle.std.proofs.Common.{◌≡◌, ◌<◌, ◌≤◌, ◌+◌, ◌*◌, ◌%◌, ℕ, zero, suc, List, ◌++◌, Option, None, Some, length, take, drop, ltb, ap, sym, ◌∙◌, arith}
 use Rattle.std.specs.Prelude.{unwrap_or}
 use Rattle.std.specs.List.{flat_map, range_with_len}
@@ -13,52 +13,52 @@ use Rattle.geometry.specs.Places.{group_sectors}
 use Rattle.life_table.specs.declared.table.Table.{Table}
 use Rattle.life_table.specs.Table.{group_of}
 use Rattle.sound_image.specs.Places.{bytes_at, bytes_from, part, sector_in}
-use Rattle.sound_image.specs.Spelling.{Layouts, metadata, spelled, spelled_bytes}
+use Rattle.sound_image.specs.Encoding.{Layouts, metadata, encoded, encoded_bytes}
 
 abbrev pub sector_of : List ℕ → Sector
 sector_of bytes = record { bytes = bytes }
 
-pub length-spelled : (g : Geometry) (t : Table) (layouts : Layouts) (image : List Sector) → length (spelled g t layouts image) ≡ length image
-unfolding spelled
-length-spelled g t layouts image = length-map-range_with_len (λ s. sector_of (spelled_bytes g t layouts image s)) 0 (length image)
+pub length-encoded : (g : Geometry) (t : Table) (layouts : Layouts) (image : List Sector) → length (encoded g t layouts image) ≡ length image
+unfolding encoded
+length-encoded g t layouts image = length-map-range_with_len (λ s. sector_of (encoded_bytes g t layouts image s)) 0 (length image)
 
-pub bytes_at-spelled : (g : Geometry) (t : Table) (layouts : Layouts) (image : List Sector) (s : ℕ) → s < length image
-    → bytes_at (spelled g t layouts image) s ≡ spelled_bytes g t layouts image s
-unfolding spelled bytes_at
-bytes_at-spelled g t layouts image s lt =
-    ap (λ (sector : Sector). sector.bytes) (get_or-map-range_with_len (λ s. sector_of (spelled_bytes g t layouts image s)) 0 (length image) s s zero_sector lt (omega arith))
+pub bytes_at-encoded : (g : Geometry) (t : Table) (layouts : Layouts) (image : List Sector) (s : ℕ) → s < length image
+    → bytes_at (encoded g t layouts image) s ≡ encoded_bytes g t layouts image s
+unfolding encoded bytes_at
+bytes_at-encoded g t layouts image s lt =
+    ap (λ (sector : Sector). sector.bytes) (get_or-map-range_with_len (λ s. sector_of (encoded_bytes g t layouts image s)) 0 (length image) s s zero_sector lt (omega arith))
 
 -- behind the groups all stays
 pub behind_groups : (g : Geometry) (t : Table) (layouts : Layouts) (image : List Sector) (s : ℕ) → s < length image → g.groups * group_sectors g ≤ s
-    → bytes_at (spelled g t layouts image) s ≡ bytes_at image s
-unfolding spelled_bytes
+    → bytes_at (encoded g t layouts image) s ≡ bytes_at image s
+unfolding encoded_bytes
 behind_groups g t layouts image s lt past =
-    bytes_at-spelled g t layouts image s lt ∙ cond-false (ltb s (g.groups * group_sectors g)) _ _ (le-ltb s (g.groups * group_sectors g) past)
+    bytes_at-encoded g t layouts image s lt ∙ cond-false (ltb s (g.groups * group_sectors g)) _ _ (le-ltb s (g.groups * group_sectors g) past)
 
 -- a place of a group of the image
 pub in_image : (groups size group place : ℕ) → group < groups → place < size → group * size + place < groups * size
 in_image groups size group place lt low = let all : (group + 1) * size ≤ groups * size = grind arith in omega arith
 
 pub at_place : (g : Geometry) (t : Table) (layouts : Layouts) (image : List Sector) (group place : ℕ) → g.groups * group_sectors g ≤ length image → group < g.groups → place < group_sectors g
-    → bytes_at (spelled g t layouts image) (sector_in g group place) ≡ unwrap_or (metadata g layouts group (group_of t group) place) (bytes_at image (sector_in g group place))
-unfolding spelled_bytes sector_in
+    → bytes_at (encoded g t layouts image) (sector_in g group place) ≡ unwrap_or (metadata g layouts group (group_of t group) place) (bytes_at image (sector_in g group place))
+unfolding encoded_bytes sector_in
 at_place g t layouts image group place size lt low =
     let within : group * group_sectors g + place < g.groups * group_sectors g = in_image g.groups (group_sectors g) group place lt low in
     let old : List ℕ = bytes_at image (group * group_sectors g + place) in
-    bytes_at-spelled g t layouts image (group * group_sectors g + place) (omega arith)
+    bytes_at-encoded g t layouts image (group * group_sectors g + place) (omega arith)
     ∙ cond-true (ltb (group * group_sectors g + place) (g.groups * group_sectors g)) _ _ (lt-ltb (group * group_sectors g + place) (g.groups * group_sectors g) within)
     ∙ ap (λ (x : ℕ). unwrap_or (metadata g layouts x (group_of t x) ((group * group_sectors g + place) % group_sectors g)) old) (div-mul-add group (group_sectors g) place low)
     ∙ ap (λ (x : ℕ). unwrap_or (metadata g layouts group (group_of t group) x) old) (mod-mul-add group (group_sectors g) place low)
 
 -- a place of which the format says what stands there
 pub at_metadata : (g : Geometry) (t : Table) (layouts : Layouts) (image : List Sector) (group place : ℕ) (bytes : List ℕ) → g.groups * group_sectors g ≤ length image → group < g.groups → place < group_sectors g
-    → metadata g layouts group (group_of t group) place ≡ Some bytes → bytes_at (spelled g t layouts image) (sector_in g group place) ≡ bytes
+    → metadata g layouts group (group_of t group) place ≡ Some bytes → bytes_at (encoded g t layouts image) (sector_in g group place) ≡ bytes
 at_metadata g t layouts image group place bytes size lt low e =
     at_place g t layouts image group place size lt low ∙ ap (λ (o : Option (List ℕ)). unwrap_or o (bytes_at image (sector_in g group place))) e
 
 -- one of which it does not
 pub at_rest : (g : Geometry) (t : Table) (layouts : Layouts) (image : List Sector) (group place : ℕ) → g.groups * group_sectors g ≤ length image → group < g.groups → place < group_sectors g
-    → metadata g layouts group (group_of t group) place ≡ None → bytes_at (spelled g t layouts image) (sector_in g group place) ≡ bytes_at image (sector_in g group place)
+    → metadata g layouts group (group_of t group) place ≡ None → bytes_at (encoded g t layouts image) (sector_in g group place) ≡ bytes_at image (sector_in g group place)
 at_rest g t layouts image group place size lt low e =
     at_place g t layouts image group place size lt low ∙ ap (λ (o : Option (List ℕ)). unwrap_or o (bytes_at image (sector_in g group place))) e
 

@@ -1,4 +1,4 @@
--- An image that spells a table is sound, and stands for the table.
+-- An image that encodes a table is sound, and stands for the table.
 use Rattle.std.proofs.Common.{◌≡◌, ℕ, List, Option, None, Some, refl, subst, ◌∙◌, arith}
 use Rattle.std.specs.Option.{option_map}
 use Rattle.life_bytes.specs.declared.sector.Sector.{Sector}
@@ -9,7 +9,7 @@ use Rattle.life_table.specs.Table.{group_of, inode_in}
 use Rattle.life_table.specs.History.{closed}
 use Rattle.sound_image.specs.Places.{bytes_at, sector_in}
 use Rattle.sound_image.specs.Damage.{Rule, header, tree, core, fork, blocks, bitmap, pointers, lists, HoldsIn, IsSound}
-use Rattle.sound_image.specs.Spelling.{Layouts, CanSpell, inode_sector, metadata, spelled}
+use Rattle.sound_image.specs.Encoding.{Layouts, CanEncode, inode_sector, metadata, encoded}
 use Rattle.sound_image.specs.Stands.{HasSuperblock, IsLongEnough, Stands}
 use Rattle.sound_image.proofs.Buckets.{pointers_right, lists_right}
 use Rattle.sound_image.proofs.Groups.{in_range}
@@ -18,9 +18,9 @@ use Rattle.sound_image.proofs.Metadata.{at_first}
 use Rattle.sound_image.proofs.Ready.{Lower, IsReady, ready}
 use Rattle.sound_image.proofs.Right.{core_right, fork_right, blocks_right, bitmap_right}
 use Rattle.sound_image.proofs.Rows.{rows_are}
-use Rattle.sound_image.proofs.Sectors.{at_rest, length-spelled}
+use Rattle.sound_image.proofs.Sectors.{at_rest, length-encoded}
 
-holds_in : (l : Lower) (g : Geometry) (t : Table) (layouts : Layouts) (image : List Sector) (rule : Rule) (group : ℕ) → IsReady g t layouts image group → HoldsIn g (spelled g t layouts image) rule group
+holds_in : (l : Lower) (g : Geometry) (t : Table) (layouts : Layouts) (image : List Sector) (rule : Rule) (group : ℕ) → IsReady g t layouts image group → HoldsIn g (encoded g t layouts image) rule group
 holds_in l g t layouts image header group r = header_right l g t layouts image group r
 holds_in l g t layouts image tree group r = (page_right l g t layouts image group r, counts_right l g t layouts image group r)
 holds_in l g t layouts image core group r = λ agino inode. core_right l g t layouts image group agino inode r
@@ -30,7 +30,7 @@ holds_in l g t layouts image bitmap group r = λ k. bitmap_right l g t layouts i
 holds_in l g t layouts image pointers group r = λ bucket. pointers_right l g t layouts image group bucket r
 holds_in l g t layouts image lists group r = λ agino row. lists_right l g t layouts image group agino row r
 
-pub sound : (l : Lower) (g : Geometry) (t : Table) (layouts : Layouts) (image : List Sector) → CanSpell g t layouts image → IsSound g (spelled g t layouts image)
+pub sound : (l : Lower) (g : Geometry) (t : Table) (layouts : Layouts) (image : List Sector) → CanEncode g t layouts image → IsSound g (encoded g t layouts image)
 sound l g t layouts image can = λ rule group lt. holds_in l g t layouts image rule group (ready g t layouts image group can lt)
 
 -- sector 0 is no inode's
@@ -42,7 +42,7 @@ first_place : (g : Geometry) → sector_in g 0 0 ≡ 0
 unfolding sector_in
 first_place g = omega arith
 
-pub first_stays : (g : Geometry) (t : Table) (layouts : Layouts) (image : List Sector) → CanSpell g t layouts image → bytes_at (spelled g t layouts image) 0 ≡ bytes_at image 0
+pub first_stays : (g : Geometry) (t : Table) (layouts : Layouts) (image : List Sector) → CanEncode g t layouts image → bytes_at (encoded g t layouts image) 0 ≡ bytes_at image 0
 first_stays g t layouts image can =
     let some = can.shape.groups in
     let few = can.shape.blocks in
@@ -50,13 +50,13 @@ first_stays g t layouts image can =
     let none : metadata g layouts 0 (group_of t 0) 0 ≡ None =
     at_first g layouts 0 (group_of t 0) r.page_low
     ∙ no_first (inode_in (group_of t 0) 0) (inode_sector g layouts 0 0) (λ x found. omega (arith, in_range g.blocks (group_of t 0) 0 x r.data_of found)) in
-    subst (λ (s : ℕ). bytes_at (spelled g t layouts image) s ≡ bytes_at image s) (first_place g) (at_rest g t layouts image 0 0 can.size (omega arith) (omega arith) none)
+    subst (λ (s : ℕ). bytes_at (encoded g t layouts image) s ≡ bytes_at image s) (first_place g) (at_rest g t layouts image 0 0 can.size (omega arith) (omega arith) none)
 
-pub stands : (l : Lower) (g : Geometry) (t : Table) (layouts : Layouts) (image : List Sector) → CanSpell g t layouts image → HasSuperblock g image → IsLongEnough g image
-    → Stands g (spelled g t layouts image) (closed t)
+pub stands : (l : Lower) (g : Geometry) (t : Table) (layouts : Layouts) (image : List Sector) → CanEncode g t layouts image → HasSuperblock g image → IsLongEnough g image
+    → Stands g (encoded g t layouts image) (closed t)
 stands l g t layouts image can super long = record {
-  superblock = record { shape = super.shape; spelled = first_stays g t layouts image can ∙ super.spelled };
-  size = omega (arith, long, length-spelled g t layouts image);
+  superblock = record { shape = super.shape; encoded = first_stays g t layouts image can ∙ super.encoded };
+  size = omega (arith, long, length-encoded g t layouts image);
   sound = sound l g t layouts image can;
   rows = rows_are l g t layouts image can;
 }

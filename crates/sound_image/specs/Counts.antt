@@ -4,7 +4,7 @@ use Rattle.life_table.specs.declared.table.Inode.{Inode}
 use Rattle.life_table.specs.declared.table.Chunk.{Chunk}
 use Rattle.life_table.specs.declared.table.Table.{Table}
 use Rattle.life_table.specs.Table.{Group}
-use Rattle.sound_image.specs.Spelling.{is_unlinked_row}
+use Rattle.sound_image.specs.Encoding.{is_unlinked_row}
 
 -- of a group
 unfoldable pub inodes_in : Group → ℕ

@@ -2,6 +2,6 @@ pub mod Places
 pub mod Reading
 pub mod Rules
 pub mod Damage
-pub mod Spelling
+pub mod Encoding
 pub mod Counts
 pub mod Stands

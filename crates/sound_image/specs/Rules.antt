@@ -5,13 +5,13 @@ use Rattle.std.specs.List.{range_with_len}
 use Rattle.life_limits.specs.declared.TheConstants.{BLOCK_SECTORS, BUCKETS, CHUNK_INODES, FIRST_DATA_BLOCK, NO_INODE}
 use Rattle.life_bytes.specs.declared.sector.Sector.{Sector}
 use Rattle.geometry.specs.declared.shape.Geometry.{Geometry}
-use Rattle.inode_core.specs.Cores.{Spells}
+use Rattle.inode_core.specs.Cores.{Encodes}
 use Rattle.extent_fork.specs.Forks.{HasFork}
 use Rattle.extent_fork.specs.Reading.{runs_in}
-use Rattle.ag_header.specs.Headers.{Spells as SpellsHeader}
+use Rattle.ag_header.specs.Headers.{Encodes as EncodesHeader}
 use Rattle.inobt_leaf.specs.declared.chunk.ChunkRec.{ChunkRec}
 use Rattle.inobt_leaf.specs.Chunks.{IsLeaf}
-use Rattle.inobt_leaf.specs.Pages.{spelling}
+use Rattle.inobt_leaf.specs.Pages.{encoding}
 use Rattle.free_map.specs.Bitmap.{bitmap}
 use Rattle.life_table.specs.declared.types.Row.{Row}
 use Rattle.life_table.specs.declared.table.Inode.{Inode}
@@ -23,7 +23,7 @@ use Rattle.sound_image.specs.Reading.{header_of, page_sector, records_of, inode_
 -- The header of a group has its form and checksum, and its group, length and uuid. Its root is a block of pages and its level
 -- one that trees have, by its form.
 pub record IsHeaderRight (g : Geometry) (image : List Sector) (group : ℕ) : Type 0 where
-  pub spelled : SpellsHeader (bytes_at image (sector_in g group header_place)) (header_of g image group)
+  pub encoded : EncodesHeader (bytes_at image (sector_in g group header_place)) (header_of g image group)
   pub own_group : (header_of g image group).group ≡ group
   pub blocks : (header_of g image group).blocks ≡ g.blocks
   pub uuid : (header_of g image group).uuid ≡ g.uuid
@@ -36,7 +36,7 @@ IsInData blocks chunk = (FIRST_DATA_BLOCK ≤ chunk.start / BLOCK_SECTORS) × (c
 -- of 64, and each free count is the number of bits of its mask. The blocks of each chunk are data blocks.
 pub record IsPageRight (g : Geometry) (image : List Sector) (group : ℕ) : Type 0 where
   pub leaf : IsLeaf (records_of g image group)
-  pub spelled : bytes_from image (page_sector g image group) BLOCK_SECTORS ≡ spelling (records_of g image group) group (page_sector g image group) g.uuid
+  pub encoded : bytes_from image (page_sector g image group) BLOCK_SECTORS ≡ encoding (records_of g image group) group (page_sector g image group) g.uuid
   pub in_data : All (IsInData g.blocks) (records_of g image group)
 
 -- the header counts the inodes of the chunks, and the free ones among them
@@ -44,9 +44,9 @@ pub record AreCountsRight (g : Geometry) (image : List Sector) (group : ℕ) : T
   pub count : (header_of g image group).count ≡ CHUNK_INODES * length (records_of g image group)
   pub free : (header_of g image group).free ≡ sum_by (λ (chunk : ChunkRec). chunk.free) (records_of g image group)
 
--- the sector of an inode of a chunk spells a core with its number and the uuid, which is in use where the mask says so
+-- the sector of an inode of a chunk encodes a core with its number and the uuid, which is in use where the mask says so
 pub record IsCoreRight (g : Geometry) (image : List Sector) (group agino : ℕ) (inode : Inode) : Type 0 where
-  pub spelled : Spells (inode_bytes g image group agino) (number_in group agino) g.uuid (core_of g image group agino)
+  pub encoded : Encodes (inode_bytes g image group agino) (number_in group agino) g.uuid (core_of g image group agino)
   pub live : (core_of g image group agino).live ≡ is_some inode.row
 
 -- The fork of an inode in use is that of its runs, all of which lie in its group, and the core counts their blocks. That the size fits

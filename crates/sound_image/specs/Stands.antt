@@ -4,7 +4,7 @@ use Rattle.life_bytes.specs.declared.sector.Sector.{Sector}
 use Rattle.geometry.specs.declared.shape.Geometry.{Geometry}
 use Rattle.geometry.specs.Places.{group_sectors}
 use Rattle.geometry.specs.Shape.{IsGeometry}
-use Rattle.geometry.specs.Superblock.{spelling}
+use Rattle.geometry.specs.Superblock.{encoding}
 use Rattle.life_table.specs.declared.table.Table.{Table}
 use Rattle.sound_image.specs.Places.{bytes_at}
 use Rattle.sound_image.specs.Reading.{rows_of}
@@ -13,7 +13,7 @@ use Rattle.sound_image.specs.Damage.{IsSound}
 -- sector 0 is the superblock of a geometry within the limits
 pub record HasSuperblock (g : Geometry) (image : List Sector) : Type 0 where
   pub shape : IsGeometry g
-  pub spelled : bytes_at image 0 ≡ spelling g
+  pub encoded : bytes_at image 0 ≡ encoding g
 
 -- no sector of the groups, the anchor and the ring is missing
 abbrev pub IsLongEnough : Geometry → List Sector → Type 0

@@ -9,10 +9,10 @@ ghost use Rattle.geometry.specs.Places.{group_sectors};
 ghost use Rattle.geometry.specs.Shape.{IsGeometry};
 ghost use Rattle.life_table.specs.declared.table.Table.{Table};
 ghost use Rattle.life_table.specs.Table.{group_of, inode_in};
-ghost use Rattle.inode_core.specs.Cores.{Spells};
+ghost use Rattle.inode_core.specs.Cores.{Encodes};
 ghost use Rattle.extent_fork.specs.Forks.{HasFork};
 ghost use Rattle.extent_fork.specs.Runs.{runs};
-ghost use Rattle.ag_header.specs.Headers.{Spells as SpellsHeader};
+ghost use Rattle.ag_header.specs.Headers.{Encodes as EncodesHeader};
 ghost use Rattle.inobt_leaf.specs.declared.chunk.ChunkRec.{ChunkRec};
 ghost use Rattle.inobt_leaf.specs.Chunks.{IsLeaf};
 ghost use Rattle.free_map.specs.Bitmap.{bitmap};
@@ -25,73 +25,73 @@ ghost use Rattle.sound_image.specs.Reading.{group_read, inode_at, inode_read, Is
 ghost use Rattle.sound_image.specs.Counts.{inodes_in};
 ghost use Rattle.sound_image.specs.Damage.{Rule, BreaksIn, FirstDamage, HoldsIn, IsSound, number_of};
 ghost use Rattle.sound_image.specs.Rules.{free_set};
-ghost use Rattle.sound_image.specs.Spelling.{Layouts, CanSpell, core_for, header_for, inode_sector, list_of, metadata, next_in, page_bytes, page_place, record_of, spelled};
+ghost use Rattle.sound_image.specs.Encoding.{Layouts, CanEncode, core_for, header_for, inode_sector, list_of, metadata, next_in, page_bytes, page_place, record_of, encoded};
 ghost use Rattle.sound_image.specs.Stands.{HasSuperblock, IsLongEnough, Stands};
 
-use ag_header::spelled_headers_are_read;
-use extent_fork::spelled_forks_are_read;
+use ag_header::encoded_headers_are_read;
+use extent_fork::encoded_forks_are_read;
 use free_map::numbers_hold_their_bits;
 use geometry::superblocks_tell_geometries;
-use inobt_leaf::spelled_pages_are_read;
-use inode_core::spelled_cores_are_read;
+use inobt_leaf::encoded_pages_are_read;
+use inode_core::encoded_cores_are_read;
 
-/// A law: what spells a well-formed table with layouts of it, bucket lists of its rows without links among them, is sound, and the rows, chunks and generations read from
+/// A law: what encodes a well-formed table with layouts of it, bucket lists of its rows without links among them, is sound, and the rows, chunks and generations read from
 /// it are the table's, with no opens. Where the sectors before had the superblock and were enough, it stands for that table.
-pub fn spelled_images_are_sound()
-    ensures sound { (g : Geometry) (t : Table) (layouts : Layouts) (image : List Sector) → CanSpell g t layouts image → IsSound g (spelled g t layouts image) }
-    ensures rows { (g : Geometry) (t : Table) (layouts : Layouts) (image : List Sector) → CanSpell g t layouts image → rows_of g (spelled g t layouts image) ≡ closed t }
-    ensures stands { (g : Geometry) (t : Table) (layouts : Layouts) (image : List Sector) → CanSpell g t layouts image → HasSuperblock g image → IsLongEnough g image
-        → Stands g (spelled g t layouts image) (closed t) }
+pub fn encoded_images_are_sound()
+    ensures sound { (g : Geometry) (t : Table) (layouts : Layouts) (image : List Sector) → CanEncode g t layouts image → IsSound g (encoded g t layouts image) }
+    ensures rows { (g : Geometry) (t : Table) (layouts : Layouts) (image : List Sector) → CanEncode g t layouts image → rows_of g (encoded g t layouts image) ≡ closed t }
+    ensures stands { (g : Geometry) (t : Table) (layouts : Layouts) (image : List Sector) → CanEncode g t layouts image → HasSuperblock g image → IsLongEnough g image
+        → Stands g (encoded g t layouts image) (closed t) }
 {
-    spelled_cores_are_read();
-    spelled_headers_are_read();
-    spelled_pages_are_read();
-    spelled_forks_are_read();
+    encoded_cores_are_read();
+    encoded_headers_are_read();
+    encoded_pages_are_read();
+    encoded_forks_are_read();
     numbers_hold_their_bits();
 }
 
-/// A law: what stands in each sector of an image that spells a table, and what it reads as: the header, the page, the bitmap, and each inode of a chunk.
-pub fn spelled_places()
-    ensures header { (g : Geometry) (t : Table) (layouts : Layouts) (image : List Sector) (group : ℕ) → CanSpell g t layouts image → group < g.groups
-        → SpellsHeader (bytes_at (spelled g t layouts image) (sector_in g group header_place)) (header_for g group (group_of t group) layouts) }
-    ensures leaf { (g : Geometry) (t : Table) (layouts : Layouts) (image : List Sector) (group : ℕ) → CanSpell g t layouts image → group < g.groups
+/// A law: what stands in each sector of an image that encodes a table, and what it reads as: the header, the page, the bitmap, and each inode of a chunk.
+pub fn encoded_places()
+    ensures header { (g : Geometry) (t : Table) (layouts : Layouts) (image : List Sector) (group : ℕ) → CanEncode g t layouts image → group < g.groups
+        → EncodesHeader (bytes_at (encoded g t layouts image) (sector_in g group header_place)) (header_for g group (group_of t group) layouts) }
+    ensures leaf { (g : Geometry) (t : Table) (layouts : Layouts) (image : List Sector) (group : ℕ) → CanEncode g t layouts image → group < g.groups
         → IsLeaf (map record_of (group_of t group)) }
-    ensures page { (g : Geometry) (t : Table) (layouts : Layouts) (image : List Sector) (group : ℕ) → CanSpell g t layouts image → group < g.groups
-        → bytes_from (spelled g t layouts image) (sector_in g group (page_place layouts group)) BLOCK_SECTORS ≡ page_bytes g layouts group (group_of t group) }
-    ensures page_sector { (g : Geometry) (t : Table) (layouts : Layouts) (image : List Sector) (group k : ℕ) → CanSpell g t layouts image → group < g.groups → k < BLOCK_SECTORS
-        → bytes_at (spelled g t layouts image) (sector_in g group (page_place layouts group + k)) ≡ part k (page_bytes g layouts group (group_of t group)) }
-    ensures bitmap { (g : Geometry) (t : Table) (layouts : Layouts) (image : List Sector) (group k : ℕ) → CanSpell g t layouts image → group < g.groups → k < bitmap_sectors
-        → bytes_at (spelled g t layouts image) (sector_in g group (bitmap_place + k)) ≡ part k (bitmap (free_set g.blocks (group_of t group))) }
-    ensures inode { (g : Geometry) (t : Table) (layouts : Layouts) (image : List Sector) (group agino : ℕ) (inode : Inode) → CanSpell g t layouts image → group < g.groups
+    ensures page { (g : Geometry) (t : Table) (layouts : Layouts) (image : List Sector) (group : ℕ) → CanEncode g t layouts image → group < g.groups
+        → bytes_from (encoded g t layouts image) (sector_in g group (page_place layouts group)) BLOCK_SECTORS ≡ page_bytes g layouts group (group_of t group) }
+    ensures page_sector { (g : Geometry) (t : Table) (layouts : Layouts) (image : List Sector) (group k : ℕ) → CanEncode g t layouts image → group < g.groups → k < BLOCK_SECTORS
+        → bytes_at (encoded g t layouts image) (sector_in g group (page_place layouts group + k)) ≡ part k (page_bytes g layouts group (group_of t group)) }
+    ensures bitmap { (g : Geometry) (t : Table) (layouts : Layouts) (image : List Sector) (group k : ℕ) → CanEncode g t layouts image → group < g.groups → k < bitmap_sectors
+        → bytes_at (encoded g t layouts image) (sector_in g group (bitmap_place + k)) ≡ part k (bitmap (free_set g.blocks (group_of t group))) }
+    ensures inode { (g : Geometry) (t : Table) (layouts : Layouts) (image : List Sector) (group agino : ℕ) (inode : Inode) → CanEncode g t layouts image → group < g.groups
         → inode_in (group_of t group) agino ≡ Some inode
-        → bytes_at (spelled g t layouts image) (sector_in g group agino) ≡ inode_sector g layouts group agino inode }
-    ensures core { (g : Geometry) (t : Table) (layouts : Layouts) (image : List Sector) (group agino : ℕ) (inode : Inode) → CanSpell g t layouts image → group < g.groups
+        → bytes_at (encoded g t layouts image) (sector_in g group agino) ≡ inode_sector g layouts group agino inode }
+    ensures core { (g : Geometry) (t : Table) (layouts : Layouts) (image : List Sector) (group agino : ℕ) (inode : Inode) → CanEncode g t layouts image → group < g.groups
         → inode_in (group_of t group) agino ≡ Some inode
-        → Spells (bytes_at (spelled g t layouts image) (sector_in g group agino)) (number_in group agino) g.uuid
+        → Encodes (bytes_at (encoded g t layouts image) (sector_in g group agino)) (number_in group agino) g.uuid
         (core_for inode.generation inode.row (next_in (list_of layouts group (agino % BUCKETS)) agino)) }
-    ensures fork { (g : Geometry) (t : Table) (layouts : Layouts) (image : List Sector) (group agino : ℕ) (inode : Inode) (row : Row) → CanSpell g t layouts image → group < g.groups
+    ensures fork { (g : Geometry) (t : Table) (layouts : Layouts) (image : List Sector) (group agino : ℕ) (inode : Inode) (row : Row) → CanEncode g t layouts image → group < g.groups
         → inode_in (group_of t group) agino ≡ Some inode → inode.row ≡ Some row
-        → HasFork (bytes_at (spelled g t layouts image) (sector_in g group agino)) (length (runs row.blocks)) group (runs row.blocks) }
+        → HasFork (bytes_at (encoded g t layouts image) (sector_in g group agino)) (length (runs row.blocks)) group (runs row.blocks) }
 {
-    spelled_cores_are_read();
-    spelled_headers_are_read();
-    spelled_pages_are_read();
-    spelled_forks_are_read();
+    encoded_cores_are_read();
+    encoded_headers_are_read();
+    encoded_pages_are_read();
+    encoded_forks_are_read();
     numbers_hold_their_bits();
 }
 
-/// A law: spelling a table leaves the number of sectors, the superblock, all sectors behind the groups, and all sectors of the groups of which the
+/// A law: encoding a table leaves the number of sectors, the superblock, all sectors behind the groups, and all sectors of the groups of which the
 /// format does not say what stands there.
-pub fn spelling_leaves_the_rest()
-    ensures same_length { (g : Geometry) (t : Table) (layouts : Layouts) (image : List Sector) → length (spelled g t layouts image) ≡ length image }
-    ensures superblock { (g : Geometry) (t : Table) (layouts : Layouts) (image : List Sector) → CanSpell g t layouts image → bytes_at (spelled g t layouts image) 0 ≡ bytes_at image 0 }
+pub fn encoding_leaves_the_rest()
+    ensures same_length { (g : Geometry) (t : Table) (layouts : Layouts) (image : List Sector) → length (encoded g t layouts image) ≡ length image }
+    ensures superblock { (g : Geometry) (t : Table) (layouts : Layouts) (image : List Sector) → CanEncode g t layouts image → bytes_at (encoded g t layouts image) 0 ≡ bytes_at image 0 }
     ensures behind { (g : Geometry) (t : Table) (layouts : Layouts) (image : List Sector) (s : ℕ) → s < length image → g.groups * group_sectors g ≤ s
-        → bytes_at (spelled g t layouts image) s ≡ bytes_at image s }
+        → bytes_at (encoded g t layouts image) s ≡ bytes_at image s }
     ensures others { (g : Geometry) (t : Table) (layouts : Layouts) (image : List Sector) (group place : ℕ) → g.groups * group_sectors g ≤ length image → group < g.groups
         → place < group_sectors g → metadata g layouts group (group_of t group) place ≡ None
-        → bytes_at (spelled g t layouts image) (sector_in g group place) ≡ bytes_at image (sector_in g group place) }
+        → bytes_at (encoded g t layouts image) (sector_in g group place) ≡ bytes_at image (sector_in g group place) }
     // Nor does it tell who holds an inode.
-    ensures no_opens { (g : Geometry) (t : Table) (layouts : Layouts) (image : List Sector) → spelled g (closed t) layouts image ≡ spelled g t layouts image }
+    ensures no_opens { (g : Geometry) (t : Table) (layouts : Layouts) (image : List Sector) → encoded g (closed t) layouts image ≡ encoded g t layouts image }
 {}
 
 /// A law: an image has at most one first damage, and none where it is sound.
@@ -111,22 +111,22 @@ pub fn sound_tables_are_well_formed()
     ensures well_formed { (g : Geometry) (image : List Sector) → IsGeometry g → IsSound g image → IsTable (rows_of g image) }
     ensures no_opens { (g : Geometry) (image : List Sector) → closed (rows_of g image) ≡ rows_of g image }
 {
-    spelled_cores_are_read();
-    spelled_headers_are_read();
-    spelled_pages_are_read();
-    spelled_forks_are_read();
+    encoded_cores_are_read();
+    encoded_headers_are_read();
+    encoded_pages_are_read();
+    encoded_forks_are_read();
     numbers_hold_their_bits();
 }
 
-/// A law: a sound image is the spelling of its table, with layouts of it. So the rules leave no sector of the format open, and hold of no other image.
-pub fn sound_images_are_spelled()
+/// A law: a sound image is the encoding of its table, with layouts of it. So the rules leave no sector of the format open, and hold of no other image.
+pub fn sound_images_are_encoded()
     ensures { (g : Geometry) (image : List Sector) → IsGeometry g → IsSound g image → g.groups * group_sectors g ≤ length image → AreSectors image
-        → (layouts : Layouts) × CanSpell g (rows_of g image) layouts image × (spelled g (rows_of g image) layouts image ≡ image) }
+        → (layouts : Layouts) × CanEncode g (rows_of g image) layouts image × (encoded g (rows_of g image) layouts image ≡ image) }
 {
-    spelled_cores_are_read();
-    spelled_headers_are_read();
-    spelled_pages_are_read();
-    spelled_forks_are_read();
+    encoded_cores_are_read();
+    encoded_headers_are_read();
+    encoded_pages_are_read();
+    encoded_forks_are_read();
     numbers_hold_their_bits();
 }
 
@@ -145,10 +145,10 @@ pub fn groups_are_counted()
     ensures inodes { (g : Geometry) (image : List Sector) (group : ℕ) → IsLeaf (records_of g image group)
         → inodes_in (group_read g image group) + sum_by (λ (chunk : ChunkRec). chunk.free) (records_of g image group) ≡ CHUNK_INODES * length (records_of g image group) }
 {
-    spelled_cores_are_read();
-    spelled_headers_are_read();
-    spelled_pages_are_read();
-    spelled_forks_are_read();
+    encoded_cores_are_read();
+    encoded_headers_are_read();
+    encoded_pages_are_read();
+    encoded_forks_are_read();
     numbers_hold_their_bits();
 }
 

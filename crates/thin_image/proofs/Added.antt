@@ -10,7 +10,7 @@ use Rattle.life_bytes.specs.Fields.{field}
 use Rattle.life_bytes.specs.TableLaws.{number_at}
 use Rattle.life_bytes.specs.declared.sector.Sector.{Sector}
 use Rattle.log_record.specs.declared.record.LogRecord.{LogRecord}
-use Rattle.log_record.specs.Spelling.{IsRecord, FitsFields, payload, sector_at, sector_count, stamps}
+use Rattle.log_record.specs.Encoding.{IsRecord, FitsFields, payload, sector_at, sector_count, stamps}
 use Rattle.log_record.specs.Whole.{IsWholeAt, at_place}
 use Rattle.thin_image.specs.NextRecord.{IsNextRecord, IsPartlyOver, SameAt, HasSector}
 use Rattle.thin_image.specs.Replay.{IsLog, IsLogged, IsBehind, HoldsPosition}

@@ -6,7 +6,7 @@ use Rattle.life_bytes.specs.declared.sector.Sector.{Sector}
 use Rattle.life_bytes.specs.Fields.{field}
 use Rattle.log_record.specs.declared.image.Image.{Image}
 use Rattle.log_record.specs.declared.record.LogRecord.{LogRecord}
-use Rattle.log_record.specs.Spelling.{sector_count}
+use Rattle.log_record.specs.Encoding.{sector_count}
 use Rattle.log_record.specs.Whole.{IsWholeAt, at_place}
 use Rattle.thin_image.specs.Inodes.{AreInodes, IsUse}
 use Rattle.thin_image.specs.declared.image.Replayed.{Replayed}

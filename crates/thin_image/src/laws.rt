@@ -3,7 +3,7 @@ ghost use Rattle.std.specs.Prelude.{◌≡◌, ◌<◌, ◌+◌, ◌∷◌, ◌+
 ghost use Rattle.std.specs.List.{All};
 ghost use Rattle.life_bytes.specs.declared.sector.Sector.{Sector};
 ghost use Rattle.log_record.specs.declared.record.LogRecord.{LogRecord};
-ghost use Rattle.log_record.specs.Spelling.{sector_count};
+ghost use Rattle.log_record.specs.Encoding.{sector_count};
 ghost use Rattle.thin_image.specs.Inodes.{AreInodes, IsUse, inode_image, with_used};
 ghost use Rattle.thin_image.specs.NextRecord.{IsNextRecord, IsPartlyOver, SameAt, HasSector};
 ghost use Rattle.thin_image.specs.Replay.{IsLog, IsBehind, overlaid};

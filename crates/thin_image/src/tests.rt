@@ -1,5 +1,5 @@
 ghost use Rattle.std.specs.Prelude.{◌≡◌, IfOk, length};
-ghost use Rattle.log_record.specs.Spelling.{IsRecord};
+ghost use Rattle.log_record.specs.Encoding.{IsRecord};
 
 use super::*;
 use life_bytes::Sector;

@@ -1,6 +1,6 @@
 -- What the calls of a mount mean to its log: a ring of sectors that is written once, from its first place on.
 use Rattle.std.specs.Prelude.{◌≡◌, ◌==◌, ◌<◌, ◌≤◌, ◌+◌, ◌*◌, ℕ, List, if◌then◌else◌}
-use Rattle.log_record.specs.Spelling.{sector_count}
+use Rattle.log_record.specs.Encoding.{sector_count}
 use Rattle.thin_run.specs.declared.types.Reply.{Reply}
 use Rattle.thin_run.specs.declared.types.Reply.TheVariants as reply
 use Rattle.thin_run.specs.declared.types.Event.{Event}

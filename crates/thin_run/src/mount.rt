@@ -3,7 +3,7 @@
 ghost use Rattle.std.specs.Prelude.{◌≡◌, ◌<◌, ◌≤◌, ◌+◌, ◌^◌, ◌∷◌, ◌++◌, [], ℕ, length, slice_index, vec_len, vec_capacity};
 ghost use Rattle.std.specs.List.Sorted.{IsStrictlyIncreasing};
 ghost use Rattle.life_limits.specs.declared.TheConstants.{MOUNT_LIMIT};
-ghost use Rattle.log_record.specs.Spelling.{FitsImage};
+ghost use Rattle.log_record.specs.Encoding.{FitsImage};
 ghost use Rattle.thin_image.specs.Inodes.{inode_image};
 ghost use Rattle.thin_run.specs.InUse.{NoneFree};
 ghost use Rattle.thin_run.specs.Counting.{IsCounting};
@@ -63,8 +63,8 @@ pub(crate) struct Mount {
 impl Mount {
     ghost use Rattle.std.specs.Prelude.{◌≡◌, ◌<◌, ◌≤◌, ◌+◌, ◌∷◌, [], ◌++◌, ℕ, List, None, IsTrue, IfOk, OnOk, OnErr, length, vec_len};
     ghost use Rattle.disk_model.specs.Disk.{Cell};
-    ghost use Rattle.log_record.specs.Spelling.{IsRecord, FitsFields, sector_count, spelled};
-    ghost use Rattle.thin_run.specs.Standing.{CanSpell, Holds, Moves};
+    ghost use Rattle.log_record.specs.Encoding.{IsRecord, FitsFields, sector_count, encoded};
+    ghost use Rattle.thin_run.specs.Standing.{CanEncode, Holds, Moves};
     ghost use Rattle.thin_run.specs.Table.{Table};
     ghost use Rattle.thin_run.specs.declared.types.Entry.{Entry};
     ghost use Rattle.thin_run.specs.Log.{LogReply, sectors_needed};
@@ -143,7 +143,7 @@ impl Mount {
             return Ok(Reply::LogEnd);
         }
         if needed > 0 {
-            let sectors = self.spell_record(alloc)?;
+            let sectors = self.encode_record(alloc)?;
             if disk.write(INODES as u64 + self.place, &sectors).is_err() {
                 self.down = Some(disk.faults());
                 return Ok(Reply::WriteFault);
@@ -162,10 +162,10 @@ impl Mount {
     }
 
     /// The sectors of the record of all that is pending.
-    fn spell_record(&self, alloc: Global) -> Result<Vec<Sector>, NoMemory>
-        ensures spelled { IfOk result (λ sectors. sectors.items ≡ spelled (next_record self.now)) }
+    fn encode_record(&self, alloc: Global) -> Result<Vec<Sector>, NoMemory>
+        ensures encoded { IfOk result (λ sectors. sectors.items ≡ encoded (next_record self.now)) }
         ensures count { IfOk result (λ sectors. length sectors.items ≡ sector_count (vec_len self.now.pending)) }
-        ensures can { OnOk result (CanSpell self.now) }
+        ensures can { OnOk result (CanEncode self.now) }
     {
         let item = self.next_record(alloc)?;
         record_bytes(alloc, &item)

@@ -6,14 +6,14 @@ use Rattle.life_bytes.specs.Fields.{field}
 use Rattle.life_bytes.specs.TableLaws.{sealed_number, AreRows}
 use Rattle.geometry.specs.declared.shape.Geometry.{Geometry}
 use Rattle.geometry.specs.Shape.{IsGeometry}
-use Rattle.geometry.specs.Superblock.{magic, spelling, superblock as superblock_rows}
+use Rattle.geometry.specs.Superblock.{magic, encoding, superblock as superblock_rows}
 use Rattle.life_table.specs.declared.table.Table.{Table}
 use Rattle.life_table.specs.History.{closed}
 use Rattle.life_table.specs.WellFormed.{IsTable}
 use Rattle.sound_image.specs.Damage.{IsSound as GroupsAreSound}
 use Rattle.sound_image.specs.Places.{bytes_at}
 use Rattle.sound_image.specs.Reading.{rows_of}
-use Rattle.sound_image.specs.Spelling.{Layouts, CanSpell, spelled}
+use Rattle.sound_image.specs.Encoding.{Layouts, CanEncode, encoded}
 use Rattle.sound_image.specs.Stands.{HasSuperblock, IsLongEnough}
 use Rattle.log_image.specs.Anchor.{HasAnchor}
 use Rattle.log_image.specs.Log.{AreBelow, IsLog, Log, empty_log, groups_part, ring_part}
@@ -68,30 +68,30 @@ one_table lower image t u c d p q =
       sym p.next ∙ ap (λ (x : Log). x.next) log_same ∙ q.next,
     )
 
--- the laws of spelled groups
-pub record Spellings : Type 0 where
-  pub sound : (g : Geometry) (t : Table) (layouts : Layouts) (image : List Sector) → CanSpell g t layouts image → GroupsAreSound g (spelled g t layouts image)
-  pub rows : (g : Geometry) (t : Table) (layouts : Layouts) (image : List Sector) → CanSpell g t layouts image → rows_of g (spelled g t layouts image) ≡ closed t
+-- the laws of encoded groups
+pub record Encodings : Type 0 where
+  pub sound : (g : Geometry) (t : Table) (layouts : Layouts) (image : List Sector) → CanEncode g t layouts image → GroupsAreSound g (encoded g t layouts image)
+  pub rows : (g : Geometry) (t : Table) (layouts : Layouts) (image : List Sector) → CanEncode g t layouts image → rows_of g (encoded g t layouts image) ≡ closed t
 
-pub replays : Lower → Spellings → (g : Geometry) (t : Table) (layouts : Layouts) (base image : List Sector) (said : Log) → Tells g image said → CanSpell g t layouts base
-    → groups_of g image said ≡ spelled g t layouts base → Stands image (closed t) said.next
-replays lower spellings g t layouts base image said tells can same =
-    let sound : GroupsAreSound g (groups_of g image said) = subst (GroupsAreSound g) (sym same) (spellings.sound g t layouts base can) in
-    let rows : rows_of g (groups_of g image said) ≡ closed t = ap (rows_of g) same ∙ spellings.rows g t layouts base can in
+pub replays : Lower → Encodings → (g : Geometry) (t : Table) (layouts : Layouts) (base image : List Sector) (said : Log) → Tells g image said → CanEncode g t layouts base
+    → groups_of g image said ≡ encoded g t layouts base → Stands image (closed t) said.next
+replays lower encodings g t layouts base image said tells can same =
+    let sound : GroupsAreSound g (groups_of g image said) = subst (GroupsAreSound g) (sym same) (encodings.sound g t layouts base can) in
+    let rows : rows_of g (groups_of g image said) ≡ closed t = ap (rows_of g) same ∙ encodings.rows g t layouts base can in
     subst (λ (u : Table). Stands image u said.next) rows (made lower g image said tells sound)
 
 -- an empty log
-pub unlogged : Lower → Spellings
+pub unlogged : Lower → Encodings
     → ((image : List Sector) (front ring position next : ℕ) → front + 1 + ring ≤ length image → HasAnchor image front ring position next
     → AreBelow (ring_part front ring image) position → IsLog image front ring (empty_log position next))
     → ((sectors : List Sector) → overlaid sectors [] ≡ sectors)
     → (g : Geometry) (t : Table) (layouts : Layouts) (base image : List Sector) (position next : ℕ) → HasSuperblock g image → IsLongEnough g image
-    → HasAnchor image (anchor_of g) g.ring position next → AreBelow (ring_of g image) position → CanSpell g t layouts base
-    → groups_part (anchor_of g) image ≡ spelled g t layouts base → Stands image (closed t) next
-unlogged lower spellings empty none g t layouts base image position next has enough at below can same =
+    → HasAnchor image (anchor_of g) g.ring position next → AreBelow (ring_of g image) position → CanEncode g t layouts base
+    → groups_part (anchor_of g) image ≡ encoded g t layouts base → Stands image (closed t) next
+unlogged lower encodings empty none g t layouts base image position next has enough at below can same =
     let tells : Tells g image (empty_log position next) =
     record { superblock = has; log = empty image (anchor_of g) g.ring position next enough at below } in
-    replays lower spellings g t layouts base image (empty_log position next) tells can (none (groups_part (anchor_of g) image) ∙ same)
+    replays lower encodings g t layouts base image (empty_log position next) tells can (none (groups_part (anchor_of g) image) ∙ same)
 
 -- ---- an image without a superblock
 
@@ -99,8 +99,8 @@ superblock_is_rows : (g : Geometry) → IsGeometry g → AreRows 512 (superblock
 superblock_is_rows g shape =
     ((omega arith, refl), ((omega arith, refl), ((omega arith, refl), ((omega arith, refl), ((omega arith, refl), ((omega arith, shape.uuid), tt))))))
 
-magic_of : (g : Geometry) → IsGeometry g → field 4 0 (spelling g) ≡ magic
-unfolding spelling
+magic_of : (g : Geometry) → IsGeometry g → field 4 0 (encoding g) ≡ magic
+unfolding encoding
 magic_of g shape = sealed_number 40 (superblock_rows g) 0 0 4 magic (superblock_is_rows g shape) (omega arith) refl refl (omega arith)
 
 first : (rule : ImageRule) → 1 ≤ number_of rule
@@ -120,7 +120,7 @@ blank image zero =
       broken = (
         refl,
         λ found.
-            let is : field 4 0 zero_sector.bytes ≡ magic = ap (field 4 0) (sym zero ∙ found.1.spelled) ∙ magic_of found.0 found.1.shape in
+            let is : field 4 0 zero_sector.bytes ≡ magic = ap (field 4 0) (sym zero ∙ found.1.encoded) ∙ magic_of found.0 found.1.shape in
             let none = no_magic in absurd (omega arith),
       );
       least = λ other b. omega arith;

@@ -21,7 +21,7 @@ pub record Lower : Type 0 where
   pub one_record : (ring : List Sector) (position : ℕ) (a b : LogRecord) → IsWholeAt ring position a → IsWholeAt ring position b → a ≡ b
 
 pub one_geometry : Lower → (a b : Geometry) (image : List Sector) → HasSuperblock a image → HasSuperblock b image → a ≡ b
-one_geometry lower a b image p q = lower.tell a b p.shape q.shape (sym p.spelled ∙ q.spelled)
+one_geometry lower a b image p q = lower.tell a b p.shape q.shape (sym p.encoded ∙ q.encoded)
 
 pub one_said : Lower → (g : Geometry) (image : List Sector) (a b : Log) → Tells g image a → Tells g image b → a ≡ b
 one_said lower g image a b p q = lower.one_log image (anchor_of g) g.ring a b p.log q.log

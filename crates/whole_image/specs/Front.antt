@@ -20,7 +20,7 @@ ring_of g image = ring_part (anchor_of g) g.ring image
 abbrev pub IsSuperblockRight : List Sector → Type 0
 IsSuperblockRight image = (g : Geometry) × HasSuperblock g image
 
--- The sector between the groups and the ring spells an anchor with some numbers that fit the ring.
+-- The sector between the groups and the ring encodes an anchor with some numbers that fit the ring.
 abbrev pub IsAnchorRight : Geometry → List Sector → Type 0
 IsAnchorRight g image = (position : ℕ) × (next : ℕ) × HasAnchor image (anchor_of g) g.ring position next
 

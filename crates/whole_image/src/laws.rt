@@ -12,7 +12,7 @@ ghost use Rattle.sound_image.specs.Damage.{FirstDamage as FirstDamageOfGroups};
 ghost use Rattle.sound_image.specs.Damage.{IsSound as GroupsAreSound};
 ghost use Rattle.sound_image.specs.Places.{bytes_at};
 ghost use Rattle.sound_image.specs.Reading.{rows_of};
-ghost use Rattle.sound_image.specs.Spelling.{Layouts, CanSpell, spelled};
+ghost use Rattle.sound_image.specs.Encoding.{Layouts, CanEncode, encoded};
 ghost use Rattle.sound_image.specs.Stands.{HasSuperblock, IsLongEnough};
 ghost use Rattle.log_image.specs.Anchor.{HasAnchor};
 ghost use Rattle.log_image.specs.Damage.{IsLogDamage};
@@ -24,7 +24,7 @@ ghost use Rattle.whole_image.specs.Stands.{Stands};
 use geometry::superblocks_tell_geometries;
 use log_image::{logs, overlays};
 use log_record::whole_records;
-use sound_image::{sound_tables_are_well_formed, spelled_images_are_sound};
+use sound_image::{sound_tables_are_well_formed, encoded_images_are_sound};
 
 /// A law: an image has at most one first damage, and none where it is sound. Where its superblock is right and no sector is missing, the first damage of its
 /// anchor and its log is the image's; where these are right too, that of its replayed groups is.
@@ -70,18 +70,18 @@ pub fn sound_images_stand()
     sound_tables_are_well_formed();
 }
 
-/// A law: an image whose superblock, anchor and log are right, and whose replayed groups spell a table, stands for it, with nobody holding an inode. So does
-/// one without records, whose groups spell the table as they are.
-pub fn spelled_images_stand()
-    ensures replayed { (g : Geometry) (t : Table) (layouts : Layouts) (base image : List Sector) (said : Log) → Tells g image said → CanSpell g t layouts base
-        → groups_of g image said ≡ spelled g t layouts base → Stands image (closed t) said.next }
+/// A law: an image whose superblock, anchor and log are right, and whose replayed groups encode a table, stands for it, with nobody holding an inode. So does
+/// one without records, whose groups encode the table as they are.
+pub fn encoded_images_stand()
+    ensures replayed { (g : Geometry) (t : Table) (layouts : Layouts) (base image : List Sector) (said : Log) → Tells g image said → CanEncode g t layouts base
+        → groups_of g image said ≡ encoded g t layouts base → Stands image (closed t) said.next }
     ensures empty { (g : Geometry) (t : Table) (layouts : Layouts) (base image : List Sector) (position next : ℕ) → HasSuperblock g image → IsLongEnough g image
-        → HasAnchor image (anchor_of g) g.ring position next → AreBelow (ring_of g image) position → CanSpell g t layouts base
-        → groups_part (anchor_of g) image ≡ spelled g t layouts base → Stands image (closed t) next }
+        → HasAnchor image (anchor_of g) g.ring position next → AreBelow (ring_of g image) position → CanEncode g t layouts base
+        → groups_part (anchor_of g) image ≡ encoded g t layouts base → Stands image (closed t) next }
 {
     superblocks_tell_geometries();
     logs();
     overlays();
     whole_records();
-    spelled_images_are_sound();
+    encoded_images_are_sound();
 }

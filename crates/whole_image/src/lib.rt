@@ -6,5 +6,5 @@ mod laws;
 
 pub use laws::{
     blank_images_are_damaged, images_stand_for_one_table, one_first_damage, sound_images_stand,
-    spelled_images_stand,
+    encoded_images_stand,
 };

@@ -1,7 +1,7 @@
 use Rattle.std.proofs.Common.{ℕ, length, ap, arith, rules}
 use Rattle.life_bytes.specs.TableLaws.{bytes_of_zero_sector}
 use Rattle.ag_header.proofs.HeadBytes.{length-bytes_of}
-use Rattle.ag_header.proofs.Spelled.{put_in_turn}
+use Rattle.ag_header.proofs.Encoded.{put_in_turn}
 use Rattle.ag_header.proofs.writing.with_fields.Goals as goal
 
 pub returns-clause-bytes : goal.returns-clause-bytes

@@ -10,7 +10,7 @@ returns-then-not-has_fork-clause-only c = λ runs has.
     let group = c.args.group in
     let same : items ≡ runs =
     c.deref.ensures.value ∙ runs_read group runs c.in_ok-list.list.items c.args.sector.now.bytes c.args.extents c.requires.group_small c.requires.few has c.in_ok-list.ensures.count c.in_ok-list.ensures.each in
-    absurd (false≢true (sym c.if-not-has_fork.true ∙ c.has_fork.ensures.1 (subst AreRuns (sym same) has.runs, has.spelled ∙ ap (fork group) (sym same))))
+    absurd (false≢true (sym c.if-not-has_fork.true ∙ c.has_fork.ensures.1 (subst AreRuns (sym same) has.runs, has.encoded ∙ ap (fork group) (sym same))))
 
 pub returns-clause-only : goal.returns-clause-only
 returns-clause-only c = λ runs has.

@@ -4,11 +4,11 @@ use Rattle.life_bytes.specs.Fields.{with_field, with_piece}
 use Rattle.life_bytes.specs.Pieces.{placed, sealed, blank}
 use Rattle.life_bytes.specs.PieceLaws.{with_piece_as_part}
 use Rattle.life_bytes.specs.TableLaws.{bytes_of_zero_sector}
-use Rattle.geometry.specs.Superblock.{superblock, spelling, magic}
+use Rattle.geometry.specs.Superblock.{superblock, encoding, magic}
 use Rattle.geometry.proofs.superblock.write_super.Goals as goal
 
 pub returns : goal.returns
-unfolding spelling placed
+unfolding encoding placed
 returns c =
     let g = c.args.g.now in
     let zeros : c.zero-new.result.bytes ≡ blank = bytes_of_zero_sector c.zero-new.result c.zero-new.ensures in

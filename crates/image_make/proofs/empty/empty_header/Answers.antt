@@ -1,4 +1,4 @@
-use Rattle.sound_image.specs.Spelling.{header_for, list_of, layout_of, page_of, head_of}
+use Rattle.sound_image.specs.Encoding.{header_for, list_of, layout_of, page_of, head_of}
 use Rattle.image_make.proofs.empty.empty_header.Goals as goal
 
 pub returns : goal.returns

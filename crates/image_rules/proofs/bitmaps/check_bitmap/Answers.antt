@@ -16,7 +16,7 @@ returns-in-None-clause-right g c told free k low =
       many = ap (λ (l : List Sector). length l) c.deref.ensures.value ∙ c.in_ok-sectors.ensures.many;
       as_many = search rules;
       long = c.have_their_bytes.ensures;
-      spelled = c.write_map.ensures;
+      encoded = c.write_map.ensures;
       free = free;
     } in
     right_from a.g.now image a.group k sectors others a.map.now compares low (c.in-None.ensures.none k (omega (arith, low, compares.many)))
@@ -32,7 +32,7 @@ returns-clause-fault g c told free =
       many = ap (λ (l : List Sector). length l) c.deref.ensures.value ∙ c.in_ok-sectors.ensures.many;
       as_many = search rules;
       long = c.have_their_bytes.ensures;
-      spelled = c.write_map.ensures;
+      encoded = c.write_map.ensures;
       free = free;
     } in
     let first = c.in-Some.ensures.some in

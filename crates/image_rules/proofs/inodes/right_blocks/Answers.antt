@@ -27,7 +27,7 @@ returns-then-not-are_within-clause-wrong c image agino shown same _ right =
     let a = c.args in
     let runs = c.in_ok-runs.runs.items in
     let has = c.in_ok-runs.ensures.found in
-    let counts = fork_counts c.spelled_forks_are_read.ensures a.g.now image a.group agino a.sector.now.bytes a.core.now runs shown same c.requires.group_small c.requires.few has right in
+    let counts = fork_counts c.encoded_forks_are_read.ensures a.g.now image a.group agino a.sector.now.bytes a.core.now runs shown same c.requires.group_small c.requires.few has right in
     elim c.then-not-are_within.branch [
       | then-not-are_within-via-then-not-are_within w ↦
           let passes = c.are_within.ensures.complete (subst (λ (rs : List Extent). All (λ (block : ℕ). block < a.g.now.blocks) (flat_map blocks_of rs)) (sym c.deref.ensures.value) counts.0) in
@@ -44,8 +44,8 @@ returns-clause-right c image agino shown same =
     let within = subst (λ (rs : List Extent). All (λ (block : ℕ). block < a.g.now.blocks) (flat_map blocks_of rs)) c.deref.ensures.value (c.are_within.ensures.sound c.if-not-are_within.false) in
     let count : length (flat_map blocks_of runs) ≡ a.core.now.blocks =
     ap (λ (rs : List Extent). length (flat_map blocks_of rs)) (sym c.deref-else-not-are_within.ensures.value) ∙ sym c.count_blocks.ensures ∙ c.if-count_blocks-core.false in
-    let right = fork_right c.spelled_forks_are_read.ensures a.g.now image a.group agino a.sector.now.bytes a.core.now runs shown same c.requires.group_small c.requires.few has within count in
-    let blocks = blocks_are c.spelled_forks_are_read.ensures a.g.now image a.group agino a.sector.now.bytes a.core.now runs shown same c.requires.group_small c.requires.few has in
+    let right = fork_right c.encoded_forks_are_read.ensures a.g.now image a.group agino a.sector.now.bytes a.core.now runs shown same c.requires.group_small c.requires.few has within count in
+    let blocks = blocks_are c.encoded_forks_are_read.ensures a.g.now image a.group agino a.sector.now.bytes a.core.now runs shown same c.requires.group_small c.requires.few has in
     let listed = ap (λ (rs : List Extent). flat_map blocks_of rs) c.deref-2.ensures.value in
     IfOk-weaker c.list_blocks.result c.list_blocks.ensures.all (λ v e. (right, blocks ∙ sym (e ∙ listed)))
 

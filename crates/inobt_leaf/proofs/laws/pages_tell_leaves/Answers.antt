@@ -1,8 +1,8 @@
-use Rattle.inobt_leaf.proofs.Whole.{length-spelling, spelling-injective}
+use Rattle.inobt_leaf.proofs.Whole.{length-encoding, encoding-injective}
 use Rattle.inobt_leaf.proofs.laws.pages_tell_leaves.Goals as goal
 
 pub returns-clause-long : goal.returns-clause-long
-returns-clause-long c = length-spelling
+returns-clause-long c = length-encoding
 
 pub returns-clause-one : goal.returns-clause-one
-returns-clause-one c = spelling-injective
+returns-clause-one c = encoding-injective

@@ -4,15 +4,15 @@ use Rattle.std.proofs.lemmas.List.FromFn.{length-map-range_with_len}
 use Rattle.life_bytes.specs.Fields.{field}
 use Rattle.inobt_leaf.specs.declared.chunk.ChunkRec.{ChunkRec}
 use Rattle.inobt_leaf.specs.Chunks.{IsLeaf}
-use Rattle.inobt_leaf.specs.Pages.{spelling, chunk_at}
+use Rattle.inobt_leaf.specs.Pages.{encoding, chunk_at}
 use Rattle.inobt_leaf.proofs.Whole.{count_says, read_again}
 use Rattle.inobt_leaf.proofs.reading.read_page.Goals as goal
 
 pub returns-then-count-gt-LEAF_CHUNKS-clause-only : goal.returns-then-count-gt-LEAF_CHUNKS-clause-only
-returns-then-count-gt-LEAF_CHUNKS-clause-only c chunks leaf spelled =
+returns-then-count-gt-LEAF_CHUNKS-clause-only c chunks leaf encoded =
     let a = c.args in
     let says : field 2 6 c.gather-bytes.result ≡ length chunks =
-    ap (field 2 6) (c.gather-bytes.ensures ∙ spelled) ∙ count_says chunks a.group a.at a.uuid.now c.told-uuid leaf.few in
+    ap (field 2 6) (c.gather-bytes.ensures ∙ encoded) ∙ count_says chunks a.group a.at a.uuid.now c.told-uuid leaf.few in
     absurd (omega (arith, says, c.field_u16.ensures, c.from-count.ensures, c.if-count-gt-LEAF_CHUNKS.true, leaf.few))
 
 pub is_page_of-requires : goal.is_page_of-requires
@@ -22,18 +22,18 @@ is_page_of-requires c =
     omega (arith, ap length c.deref.ensures.value, many, c.if-count-gt-LEAF_CHUNKS.false)
 
 pub returns-then-is_page_of-clause-only : goal.returns-then-is_page_of-clause-only
-returns-then-is_page_of-clause-only c chunks leaf spelled =
+returns-then-is_page_of-clause-only c chunks leaf encoded =
     let a = c.args in
     c.of.ensures
     ∙ read_again chunks c.in_ok-chunks.chunks.items c.gather-bytes.result c.from-count.result a.group a.at a.uuid.now leaf c.told-uuid
-    (c.gather-bytes.ensures ∙ spelled) (c.from-count.ensures ∙ c.field_u16.ensures) c.in_ok-chunks.ensures
+    (c.gather-bytes.ensures ∙ encoded) (c.from-count.ensures ∙ c.field_u16.ensures) c.in_ok-chunks.ensures
 
 pub returns-else-is_page_of-clause-only : goal.returns-else-is_page_of-clause-only
-returns-else-is_page_of-clause-only c chunks leaf spelled =
+returns-else-is_page_of-clause-only c chunks leaf encoded =
     let a = c.args in
     let same : c.deref.result.now ≡ chunks =
     c.deref.ensures.value
     ∙ read_again chunks c.in_ok-chunks.chunks.items c.gather-bytes.result c.from-count.result a.group a.at a.uuid.now leaf c.told-uuid
-    (c.gather-bytes.ensures ∙ spelled) (c.from-count.ensures ∙ c.field_u16.ensures) c.in_ok-chunks.ensures in
+    (c.gather-bytes.ensures ∙ encoded) (c.from-count.ensures ∙ c.field_u16.ensures) c.in_ok-chunks.ensures in
     absurd (false≢true (sym c.if-is_page_of.false ∙ c.is_page_of.ensures.complete (subst IsLeaf (sym same) leaf)
-    (c.gather-bytes.ensures ∙ spelled ∙ ap (λ (cs : List ChunkRec). spelling cs a.group a.at a.uuid.now) (sym same))))
+    (c.gather-bytes.ensures ∙ encoded ∙ ap (λ (cs : List ChunkRec). encoding cs a.group a.at a.uuid.now) (sym same))))

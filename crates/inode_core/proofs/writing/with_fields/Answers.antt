@@ -1,7 +1,7 @@
 use Rattle.std.proofs.Common.{ℕ, ap, ◌∙◌, rules}
 use Rattle.life_bytes.specs.TableLaws.{bytes_of_zero_sector}
 use Rattle.life_bytes.specs.Fields.{with_field}
-use Rattle.inode_core.proofs.Spelled.{put_in_turn}
+use Rattle.inode_core.proofs.Encoded.{put_in_turn}
 use Rattle.inode_core.proofs.writing.with_fields.Goals as goal
 
 pub returns : goal.returns

@@ -1,5 +1,5 @@
 use Rattle.std.proofs.Common.{take, drop, rules}
-use Rattle.inode_core.proofs.Spelled.{IsWritten, is_written, whole_fork}
+use Rattle.inode_core.proofs.Encoded.{IsWritten, is_written, whole_fork}
 use Rattle.inode_core.proofs.writing.write_core.Goals as goal
 
 written : (c : goal.After-put_crc) → IsWritten c.args.core.now c.args.number c.args.uuid.now c.args.into.now.bytes c.put_crc.new.bytes
@@ -8,8 +8,8 @@ written c =
     is_written c.args.core.now c.args.number c.args.uuid.now old c.with_fields-new.result.bytes (take 336 (drop 176 old)) c.put_bytes.new.bytes c.put_crc.new.bytes
     (search rules) (search rules) c.requires.allowed c.requires.fork c.with_fields-new.ensures (whole_fork old (search rules)) c.put_bytes.ensures c.put_crc.ensures
 
-pub returns-clause-spelled : goal.returns-clause-spelled
-returns-clause-spelled c = (written c).spelled
+pub returns-clause-encoded : goal.returns-clause-encoded
+returns-clause-encoded c = (written c).encoded
 
 pub returns-clause-same_fork : goal.returns-clause-same_fork
 returns-clause-same_fork c = (written c).same_fork

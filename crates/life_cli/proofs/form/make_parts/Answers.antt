@@ -2,7 +2,7 @@ use Rattle.std.proofs.Common.{◌≡◌, ◌<◌, ◌≤◌, ℕ, List, [], ◌�
 use Rattle.std.proofs.lemmas.Slice.Eq.{bytes_eq-Decides}
 use Rattle.std.specs.Fmt.{decimal}
 use Rattle.geometry.specs.declared.shape.Geometry.{Geometry}
-use Rattle.life_cli.specs.Form.{IsMake, IsPath, IsSpelled}
+use Rattle.life_cli.specs.Form.{IsMake, IsPath, IsEncoded}
 use Rattle.life_cli.proofs.form.make_parts.Goals as goal
 
 -- a list of five is made of its elements
@@ -26,17 +26,17 @@ words_are words f i g b r form image groups blocks ring same p q u v w =
     cc
 
 make_of : (words : List (String Global)) (form image groups blocks ring : List ℕ) (g : Geometry) → map string_bytes words ≡ form ∷ image ∷ groups ∷ blocks ∷ ring ∷ []
-    → form ≡ codes "make" → IsPath image → IsSpelled g groups blocks ring → IsMake words image g
-make_of words form image groups blocks ring g are is path spelled =
-    let a : groups ≡ decimal g.groups = spelled.groups_word in
-    let b : blocks ≡ decimal g.blocks = spelled.blocks_word in
-    let c : ring ≡ decimal g.ring = spelled.ring_word in
+    → form ≡ codes "make" → IsPath image → IsEncoded g groups blocks ring → IsMake words image g
+make_of words form image groups blocks ring g are is path encoded =
+    let a : groups ≡ decimal g.groups = encoded.groups_word in
+    let b : blocks ≡ decimal g.blocks = encoded.blocks_word in
+    let c : ring ≡ decimal g.ring = encoded.ring_word in
     let whole : map string_bytes words ≡ codes "make" ∷ image ∷ decimal g.groups ∷ decimal g.blocks ∷ decimal g.ring ∷ [] = cc in
-    (whole, path, spelled.made)
+    (whole, path, encoded.made)
 
-spelled_of : (words : List (String Global)) (form image groups blocks ring path : List ℕ) (g : Geometry)
-    → map string_bytes words ≡ form ∷ image ∷ groups ∷ blocks ∷ ring ∷ [] → IsMake words path g → IsSpelled g groups blocks ring
-spelled_of words form image groups blocks ring path g are make =
+encoded_of : (words : List (String Global)) (form image groups blocks ring path : List ℕ) (g : Geometry)
+    → map string_bytes words ≡ form ∷ image ∷ groups ∷ blocks ∷ ring ∷ [] → IsMake words path g → IsEncoded g groups blocks ring
+encoded_of words form image groups blocks ring path g are make =
     let same : form ∷ image ∷ groups ∷ blocks ∷ ring ∷ [] ≡ codes "make" ∷ path ∷ decimal g.groups ∷ decimal g.blocks ∷ decimal g.ring ∷ [] = sym are ∙ make.0 in
     let a : groups ≡ decimal g.groups = cc in
     let b : blocks ≡ decimal g.blocks = cc in
@@ -52,7 +52,7 @@ returns-in_err-geometry-in-len5 c =
     c.as_str.ensures.value c.as_str-then-eq.ensures.value c.as_str-in-len5.ensures.value c.as_str-in-len5-2.ensures.value c.as_str-in-len5-3.ensures.value in
     rw c.from_residual.ensures
     (λ (path : List ℕ) (g : Geometry) (make : IsMake c.args.words.now path g).
-    let found = c.read_geometry.ensures.only g (spelled_of c.args.words.now c.as_str.result.now c.as_str-then-eq.result.now c.as_str-in-len5.result.now
+    let found = c.read_geometry.ensures.only g (encoded_of c.args.words.now c.as_str.result.now c.as_str-then-eq.result.now c.as_str-in-len5.result.now
     c.as_str-in-len5-2.result.now c.as_str-in-len5-3.result.now path g are make) in
     let none = c.in_err-geometry-in-len5.was in
     absurd cc)

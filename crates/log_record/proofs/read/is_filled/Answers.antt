@@ -3,7 +3,7 @@ use Rattle.std.proofs.lemmas.List.{length-replicate, length-take-le, get_or-repl
 use Rattle.std.proofs.lemmas.Bool.{false≢true}
 use Rattle.log_record.specs.Outline.{filling}
 use Rattle.log_record.specs.Payload.{HoldsPayload}
-use Rattle.log_record.specs.Spelling.{sector_count}
+use Rattle.log_record.specs.Encoding.{sector_count}
 use Rattle.log_record.proofs.Window.{zeros_are}
 use Rattle.log_record.proofs.Whole.{count_of, whole_zeros}
 use Rattle.log_record.proofs.read.is_filled.Goals as goal

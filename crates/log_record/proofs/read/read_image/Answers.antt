@@ -2,7 +2,7 @@ use Rattle.std.proofs.Common.{◌≡◌, ◌+◌, ℕ, List, ◌++◌, length, s
 use Rattle.std.proofs.lemmas.Nat.{be_bytes_8}
 use Rattle.byteorder.specs.Endian.{big_bytes}
 use Rattle.log_record.specs.Payload.{HoldsPayload}
-use Rattle.log_record.specs.Spelling.{image_bytes}
+use Rattle.log_record.specs.Encoding.{image_bytes}
 use Rattle.log_record.proofs.Window.{HoldsPayload-append}
 use Rattle.log_record.proofs.read.read_image.Goals as goal
 

@@ -4,7 +4,7 @@ use Rattle.std.proofs.lemmas.List.{length_push}
 use Rattle.std.proofs.lemmas.List.Elements.{All-push}
 use Rattle.log_record.specs.declared.image.Image.{Image}
 use Rattle.log_record.specs.Payload.{HoldsPayload}
-use Rattle.log_record.specs.Spelling.{FitsImage, image_bytes}
+use Rattle.log_record.specs.Encoding.{FitsImage, image_bytes}
 use Rattle.log_record.proofs.Window.{more_held}
 use Rattle.log_record.proofs.read.read_images.Goals as goal
 

@@ -1,7 +1,7 @@
 use Rattle.std.proofs.Common.{length, ◌≡◌}
 use Rattle.std.specs.List.{flat_map, All}
 use Rattle.log_record.specs.Payload.{HoldsPayload}
-use Rattle.log_record.specs.Spelling.{FitsImage, image_bytes}
+use Rattle.log_record.specs.Encoding.{FitsImage, image_bytes}
 use Rattle.log_record.proofs.read.read_images.Given as goal
 
 abbrev pub invariant-loop-i : goal.invariant-loop-i

@@ -5,8 +5,8 @@ use Rattle.life_bytes.specs.Fields.{with_piece}
 use Rattle.log_record.specs.declared.image.Image.{Image}
 use Rattle.log_record.specs.Numbers.{record_of}
 use Rattle.log_record.specs.Payload.{payload_of}
-use Rattle.log_record.specs.Spelling.{FitsImage, header, image_bytes, payload, sector_count}
-use Rattle.log_record.proofs.Spelled.{header_of, length-header, length-images, with_piece-zeros, image_step, stamps_follow, more_images, spelled_from_parts}
+use Rattle.log_record.specs.Encoding.{FitsImage, header, image_bytes, payload, sector_count}
+use Rattle.log_record.proofs.Encoded.{header_of, length-header, length-images, with_piece-zeros, image_step, stamps_follow, more_images, encoded_from_parts}
 use Rattle.log_record.proofs.write.fill_images.Goals as goal
 
 pub loop-image-init : goal.loop-image-init
@@ -67,9 +67,9 @@ loop-image-preserved c =
           ∙ ap (λ (k : ℕ). header_of item ++ flat_map image_bytes (take (i + 1) images) ++ replicate (496 * k - (at + 520)) 0) (sym same);
     }
 
-pub returns-clause-spelled : goal.returns-clause-spelled
+pub returns-clause-encoded : goal.returns-clause-encoded
 unfolding payload
-returns-clause-spelled c =
+returns-clause-encoded c =
     let item = record_of c.args.numbers.now c.args.images.now in
     let into = c.loop-image.into in
     let images = item.images in
@@ -77,7 +77,7 @@ returns-clause-spelled c =
     let listed : length c.args.images.now ≡ m = refl in
     let all : take c.loop-image.image-index images ≡ images = take_all c.loop-image.image-index images (omega arith) in
     let count : length into ≡ sector_count m = omega arith in
-    spelled_from_parts into item count c.loop-image.invariant.whole c.loop-image.invariant.stamps
+    encoded_from_parts into item count c.loop-image.invariant.whole c.loop-image.invariant.stamps
     (c.loop-image.invariant.payload
     ∙ ap (λ (l : List Image). header_of item ++ flat_map image_bytes l ++ replicate (496 * length into - c.loop-image.at) 0) all
     ∙ append_assoc (header_of item) (flat_map image_bytes images) (replicate (496 * length into - c.loop-image.at) 0)

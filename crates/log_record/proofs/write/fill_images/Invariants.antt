@@ -2,8 +2,8 @@ use Rattle.std.proofs.Common.{◌≡◌, ◌+◌, ◌*◌, ◌-◌, ◌++◌, le
 use Rattle.std.specs.List.{flat_map, All}
 use Rattle.log_record.specs.Numbers.{record_of}
 use Rattle.log_record.specs.Payload.{AreSectors, HasStamps, payload_of}
-use Rattle.log_record.specs.Spelling.{FitsImage, image_bytes}
-use Rattle.log_record.proofs.Spelled.{header_of}
+use Rattle.log_record.specs.Encoding.{FitsImage, image_bytes}
+use Rattle.log_record.proofs.Encoded.{header_of}
 use Rattle.log_record.proofs.write.fill_images.Given as goal
 
 abbrev pub invariant-loop-image : goal.invariant-loop-image

@@ -1,7 +1,7 @@
 use Rattle.std.proofs.Common.{ℕ, List, ap, ◌∙◌}
 use Rattle.life_bytes.specs.Fields.{with_field}
-use Rattle.log_record.specs.Spelling.{sector_count}
-use Rattle.log_record.proofs.Spelled.{header_is}
+use Rattle.log_record.specs.Encoding.{sector_count}
+use Rattle.log_record.proofs.Encoded.{header_is}
 use Rattle.log_record.proofs.write.header_bytes.Goals as goal
 
 pub returns : goal.returns

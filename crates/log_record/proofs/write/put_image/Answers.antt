@@ -1,7 +1,7 @@
 use Rattle.std.proofs.Common.{◌≡◌, ◌≤◌, ◌+◌, ℕ, List, ◌++◌, length, ap, sym, ◌∙◌, arith, rules, length-append}
 use Rattle.life_bytes.specs.Fields.{with_piece}
 use Rattle.log_record.specs.Payload.{payload_of}
-use Rattle.log_record.specs.Spelling.{image_bytes}
+use Rattle.log_record.specs.Encoding.{image_bytes}
 use Rattle.log_record.proofs.Pieces.{with_piece-split, length-payload_of}
 use Rattle.log_record.proofs.write.put_image.Goals as goal
 

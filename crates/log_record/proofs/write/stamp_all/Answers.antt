@@ -1,5 +1,5 @@
 use Rattle.std.proofs.Common.{arith}
-use Rattle.log_record.proofs.Spelled.{blank_whole, blank_stamps, blank_payload}
+use Rattle.log_record.proofs.Encoded.{blank_whole, blank_stamps, blank_payload}
 use Rattle.log_record.proofs.write.stamp_all.Goals as goal
 
 pub returns-clause-whole : goal.returns-clause-whole

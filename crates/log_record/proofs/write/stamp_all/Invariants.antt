@@ -1,6 +1,6 @@
 use Rattle.std.proofs.Common.{◌≡◌, ◌<◌, ◌+◌, ◌++◌, ℕ, replicate, slice_index_or}
 use Rattle.life_bytes.specs.declared.sector.Sector.{Sector}
-use Rattle.log_record.specs.Spelling.{stamps}
+use Rattle.log_record.specs.Encoding.{stamps}
 use Rattle.log_record.proofs.write.stamp_all.Given as goal
 
 abbrev pub invariant-loop-i : goal.invariant-loop-i

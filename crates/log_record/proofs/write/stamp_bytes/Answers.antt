@@ -1,6 +1,6 @@
 use Rattle.std.proofs.Common.{ℕ, List, ap, ◌∙◌}
 use Rattle.life_bytes.specs.Fields.{with_field}
-use Rattle.log_record.proofs.Spelled.{stamps_are}
+use Rattle.log_record.proofs.Encoded.{stamps_are}
 use Rattle.log_record.proofs.write.stamp_bytes.Goals as goal
 
 pub returns : goal.returns

@@ -1,7 +1,7 @@
 use Rattle.std.proofs.Common.{ℕ, List, ◌∙◌, ap}
 use Rattle.life_bytes.specs.Fields.{with_field}
 use Rattle.life_bytes.specs.declared.sector.Sector.{Sector}
-use Rattle.log_record.proofs.Spelled.{stamped_is}
+use Rattle.log_record.proofs.Encoded.{stamped_is}
 use Rattle.log_record.proofs.write.stamped.Goals as goal
 
 pub returns : goal.returns

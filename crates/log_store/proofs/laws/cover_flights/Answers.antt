@@ -3,7 +3,7 @@ use Rattle.life_bytes.specs.declared.sector.Sector.{Sector}
 use Rattle.disk_model.specs.Disk.{Cell, IsImage, as_read, flushed, written}
 use Rattle.disk_model.specs.DiskLaws.{IsImage-as_read, IsImage-flushed, as_read-flushed, length-image}
 use Rattle.log_record.specs.declared.record.LogRecord.{LogRecord}
-use Rattle.log_record.specs.Spelling.{spelled}
+use Rattle.log_record.specs.Encoding.{encoded}
 use Rattle.log_image.specs.Log.{groups_part}
 use Rattle.log_image.specs.Overlay.{images_of, newest, overlaid}
 use Rattle.log_image.specs.OverlayLaws.{overlaid-none, newest-none}
@@ -22,7 +22,7 @@ same_cover s before covers =
     ap (λ (at : ℕ). cover at (s.durable + 1)) (sym covers.rest.end) ∙ ap (λ (n : ℕ). cover covers.rest.log.end n) (sym covers.rest.next)
 
 -- it does not pass the ring's end
-straight : (c : goal.After-disk_writes) (s : State) → 0 < s.ring → (first_part s.ring (cover_record s) ≡ spelled (cover_record s)) × (rest_part s.ring (cover_record s) ≡ [])
+straight : (c : goal.After-disk_writes) (s : State) → 0 < s.ring → (first_part s.ring (cover_record s) ≡ encoded (cover_record s)) × (rest_part s.ring (cover_record s) ≡ [])
 straight c s some = c.disk_writes.ensures.straight s.ring (cover_record s) (omega arith)
 
 -- an image over which the cover was written or not

@@ -1,6 +1,6 @@
 use Rattle.std.proofs.Common.{◌≡◌, ℕ, ◌-◌, ◌%◌, ◌≤◌, List, [], ◌∷◌, ◌++◌, length, take, refl, sym, ap, ◌∙◌, subst, inl, inr, arith}
 use Rattle.std.proofs.lemmas.List.{length-take}
-use Rattle.log_record.specs.Spelling.{sector_count, spelled}
+use Rattle.log_record.specs.Encoding.{sector_count, encoded}
 use Rattle.log_image.specs.Writes.{first_part}
 use Rattle.life_bytes.specs.declared.sector.Sector.{Sector}
 use Rattle.disk_model.specs.Disk.{Cell, IsImage, as_read, flushed}
@@ -80,7 +80,7 @@ returns-clause-half_base c = λ s before fits.
     let at = place_of s.anchor s.ring s.head in
     let pieces = first_part s.ring (item_of s) in
     base-written s at pieces before (omega arith)
-    (omega (arith, fits.place, fits.some, length-take (s.ring - s.head % s.ring) (spelled (item_of s))))
+    (omega (arith, fits.place, fits.some, length-take (s.ring - s.head % s.ring) (encoded (item_of s))))
 
 pub returns-clause-full_base : goal.returns-clause-full_base
 returns-clause-full_base c = λ s before flies fits.

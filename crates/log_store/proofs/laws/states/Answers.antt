@@ -3,7 +3,7 @@ use Rattle.life_limits.specs.declared.TheConstants.{MAX_RECORD_SECTORS}
 use Rattle.life_bytes.specs.declared.sector.Sector.{Sector}
 use Rattle.disk_model.specs.Disk.{Cell, IsImage}
 use Rattle.disk_model.specs.DiskLaws.{length-written}
-use Rattle.log_record.specs.Spelling.{spelled}
+use Rattle.log_record.specs.Encoding.{encoded}
 use Rattle.log_image.specs.Step.{place_of}
 use Rattle.log_image.specs.Writes.{first_part, rest_part}
 use Rattle.log_store.specs.declared.store.Stage.{Stage}
@@ -36,7 +36,7 @@ by_stage c s cells image Record end fits is (before, flies, at) =
     moved s cells before image (ap (base_of s) at ∙ c.flights.ensures.full_base s before flies room)
     (c.flights.ensures.full s before image flies room (subst (λ (cs : List Cell). IsImage cs image) at is))
 by_stage c s cells image Cover end fits is (before, covers, at) =
-    let size : length cells ≡ length before = ap length at ∙ length-written (place_of s.anchor s.ring s.head) (spelled (cover_record s)) before in
+    let size : length cells ≡ length before = ap length at ∙ length-written (place_of s.anchor s.ring s.head) (encoded (cover_record s)) before in
     let room = fits_before s cells before size fits in
     moved s cells before image (ap (base_of s) at ∙ c.cover_flights.ensures.written_base s before room)
     (c.cover_flights.ensures.written s before image covers room (end refl) (subst (λ (cs : List Cell). IsImage cs image) at is))

@@ -15,7 +15,7 @@ returns-clause-damaged g c told =
     let start = c.in-Some.start in
     let at = c.anchor_of-anchor.ensures.at in
     let has : HasAnchor image anchor ring start.position start.next_commit = record {
-      sector = ap (slice_get image) (sym at) ∙ c.in_ok-read.ensures.read told ∙ ap (λ (s : Sector). Some s) c.in-Some.ensures.spelled;
+      sector = ap (slice_get image) (sym at) ∙ c.in_ok-read.ensures.read told ∙ ap (λ (s : Sector). Some s) c.in-Some.ensures.encoded;
       start = c.in-Some.ensures.position;
       number = c.in-Some.ensures.number;
     } in

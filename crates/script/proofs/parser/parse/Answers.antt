@@ -13,7 +13,7 @@ loop-line-preserved c =
       read = rw c.in_ok-push-in-Ok.ensures.items
           (read_more (asking_lines c.args.bytes.now) c.loop-line.read.items (c.loop-line.number + 1) c.in-Some.line.now c.next.new.self c.loop-line.lines
           (record { number = c.loop-line.number + 1; command = c.in-Ok.command }) c.loop-line.invariant.read c.in-Some.ensures
-          (sym c.is_skipped.ensures ∙ c.if-is_skipped.false) (record { number = refl; inside = asked.0; spells = asked.1; command = asked.2 }));
+          (sym c.is_skipped.ensures ∙ c.if-is_skipped.false) (record { number = refl; inside = asked.0; denotes = asked.1; command = asked.2 }));
       count = omega (arith, c.loop-line.invariant.count, ap length c.in-Some.ensures);
     }
 

@@ -5,10 +5,10 @@ use Rattle.sound_image.proofs.laws.groups_are_counted.Goals as goal
 -- the laws below, as they were called
 lower : goal.After-numbers_hold_their_bits → Lower
 lower c = record {
-  cores = c.spelled_cores_are_read.ensures;
-  headers = c.spelled_headers_are_read.ensures;
-  pages = c.spelled_pages_are_read.ensures;
-  forks = c.spelled_forks_are_read.ensures;
+  cores = c.encoded_cores_are_read.ensures;
+  headers = c.encoded_headers_are_read.ensures;
+  pages = c.encoded_pages_are_read.ensures;
+  forks = c.encoded_forks_are_read.ensures;
   bits = c.numbers_hold_their_bits.ensures;
 }
 

@@ -16,5 +16,5 @@ returns c =
     let done = c.loop-place.invariant in record {
       buffers = λ place d below. done.done place d (omega arith);
       inodes = flushed_all c.args.cluster c.args.self.now c.args.into.now c.loop-place.self c.loop-place.into c.loop-place.place done (omega arith);
-      rows = λ spelled place d below. done.done place d (omega arith) ∙ flushed_rows c.args.self.now (member c.args.cluster place) _ (spelled place d below);
+      rows = λ encoded place d below. done.done place d (omega arith) ∙ flushed_rows c.args.self.now (member c.args.cluster place) _ (encoded place d below);
     }

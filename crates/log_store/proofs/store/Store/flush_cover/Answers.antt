@@ -3,7 +3,7 @@ use Rattle.std.specs.Prelude.{IsTrue}
 use Rattle.life_bytes.specs.declared.sector.Sector.{Sector}
 use Rattle.disk_model.specs.Disk.{Cell, IsImage, flushed}
 use Rattle.disk_model.specs.DiskLaws.{length-written}
-use Rattle.log_record.specs.Spelling.{spelled}
+use Rattle.log_record.specs.Encoding.{encoded}
 use Rattle.log_image.specs.Step.{place_of}
 use Rattle.log_store.specs.declared.store.Store.{Store}
 use Rattle.log_store.specs.declared.store.Stage.{Stage}
@@ -32,7 +32,7 @@ returns-then-eq-clause-goes g c =
     let ring_fits : IsTrue g.D.Disk.told → RingFits s cells = λ tells. record { some = ring_some; place = omega (arith, sound.place, g.met.D.Disk.cells_fit tells old.disk) } in
     let before_fits : (tells : IsTrue g.D.Disk.told) → RingFits s (held tells).0 = λ tells. record {
       some = ring_some;
-      place = omega (arith, sound.place, g.met.D.Disk.cells_fit tells old.disk, ap length (held tells).2, length-written (place_of s.anchor s.ring s.head) (spelled (cover_record s)) (held tells).0);
+      place = omega (arith, sound.place, g.met.D.Disk.cells_fit tells old.disk, ap length (held tells).2, length-written (place_of s.anchor s.ring s.head) (encoded (cover_record s)) (held tells).0);
     } in
     let images : IsTrue g.D.Disk.told → (image : List Sector) → IsImage cells image → ReplaysTo s cells image = λ tells image is.
     c.states.ensures.replays s cells image (c.requires.store.holds tells) (ring_fits tells) (λ at. fit.0) is in
@@ -82,7 +82,7 @@ returns-else-eq-clause-goes g c =
     let ring_fits : IsTrue g.D.Disk.told → RingFits s cells = λ tells. record { some = ring_some; place = omega (arith, sound.place, g.met.D.Disk.cells_fit tells old.disk) } in
     let before_fits : (tells : IsTrue g.D.Disk.told) → RingFits s (held tells).0 = λ tells. record {
       some = ring_some;
-      place = omega (arith, sound.place, g.met.D.Disk.cells_fit tells old.disk, ap length (held tells).2, length-written (place_of s.anchor s.ring s.head) (spelled (cover_record s)) (held tells).0);
+      place = omega (arith, sound.place, g.met.D.Disk.cells_fit tells old.disk, ap length (held tells).2, length-written (place_of s.anchor s.ring s.head) (encoded (cover_record s)) (held tells).0);
     } in
     let images : IsTrue g.D.Disk.told → (image : List Sector) → IsImage cells image → ReplaysTo s cells image = λ tells image is.
     c.states.ensures.replays s cells image (c.requires.store.holds tells) (ring_fits tells) (λ at. fit.0) is in
@@ -132,7 +132,7 @@ returns-in-Err-clause-goes g c =
     let ring_fits : IsTrue g.D.Disk.told → RingFits s cells = λ tells. record { some = ring_some; place = omega (arith, sound.place, g.met.D.Disk.cells_fit tells old.disk) } in
     let before_fits : (tells : IsTrue g.D.Disk.told) → RingFits s (held tells).0 = λ tells. record {
       some = ring_some;
-      place = omega (arith, sound.place, g.met.D.Disk.cells_fit tells old.disk, ap length (held tells).2, length-written (place_of s.anchor s.ring s.head) (spelled (cover_record s)) (held tells).0);
+      place = omega (arith, sound.place, g.met.D.Disk.cells_fit tells old.disk, ap length (held tells).2, length-written (place_of s.anchor s.ring s.head) (encoded (cover_record s)) (held tells).0);
     } in
     let images : IsTrue g.D.Disk.told → (image : List Sector) → IsImage cells image → ReplaysTo s cells image = λ tells image is.
     c.states.ensures.replays s cells image (c.requires.store.holds tells) (ring_fits tells) (λ at. fit.0) is in

@@ -8,7 +8,7 @@ use Rattle.disk_model.specs.Disk.{Cell, IsImage, flushed}
 use Rattle.disk_model.specs.DiskLaws.{length-written}
 use Rattle.log_record.specs.declared.image.Image.{Image}
 use Rattle.log_record.specs.declared.image.Commit.{Commit}
-use Rattle.log_record.specs.Spelling.{sector_count}
+use Rattle.log_record.specs.Encoding.{sector_count}
 use Rattle.log_image.specs.Log.{IsGroupImage}
 use Rattle.log_image.specs.Step.{place_of}
 use Rattle.log_image.specs.Writes.{first_part, rest_part}

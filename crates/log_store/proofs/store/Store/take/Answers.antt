@@ -40,7 +40,7 @@ flight_more s commit sectors count is = record {
   batch = more_taken s.list commit s.taken s.batch is.batch;
   fits = is.fits;
   size = is.size;
-  spelled = is.spelled;
+  encoded = is.encoded;
   room = is.room;
   end = is.end;
 }

@@ -4,7 +4,7 @@ use Rattle.life_bytes.specs.declared.sector.Sector.{Sector}
 use Rattle.disk_model.specs.Disk.{Cell, IsImage, Elapses, IsPartlyWritten, written}
 use Rattle.disk_model.specs.DiskLaws.{IsImage-partly_written}
 use Rattle.log_record.specs.declared.record.LogRecord.{LogRecord}
-use Rattle.log_record.specs.Spelling.{spelled}
+use Rattle.log_record.specs.Encoding.{encoded}
 use Rattle.log_image.specs.Step.{place_of}
 use Rattle.log_store.specs.declared.store.Store.{Store}
 use Rattle.log_store.specs.declared.store.Stage.{Stage}
@@ -49,8 +49,8 @@ returns-in-Ok-clause-goes g c =
     let xs = c.fill_buffer.new.sectors.items in
     let with_head : ℕ → LogRecord = λ head. record { position = head; tail = head; first = old.durable + 1; commits = 0; images = [] } in
     let same_item : with_head c.head-head.result ≡ cover_record s = ap with_head c.head-head.ensures.head in
-    let spelled_is : take 1 xs ≡ spelled (cover_record s) = c.fill_buffer.ensures.spelled ∙ ap spelled same_item in
-    let pieces_is : take 1 c.deref.result.now ≡ spelled (cover_record s) = ap (λ (l : List Sector). take 1 l) c.deref.ensures.value ∙ spelled_is in
+    let encoded_is : take 1 xs ≡ encoded (cover_record s) = c.fill_buffer.ensures.encoded ∙ ap encoded same_item in
+    let pieces_is : take 1 c.deref.result.now ≡ encoded (cover_record s) = ap (λ (l : List Sector). take 1 l) c.deref.ensures.value ∙ encoded_is in
     let place_is : old.anchor + 1 + c.place.result ≡ place_of old.anchor old.ring old.positions.head =
     ap (λ (n : ℕ). old.anchor + 1 + n) (c.place.ensures.place ∙ ap (λ (n : ℕ). n % old.positions.ring) c.head-head.ensures.head ∙ ap (λ (n : ℕ). old.positions.head % n) sound.ring) in
     let cells_is : written (old.anchor + 1 + c.place.result) (take 1 c.deref.result.now) cells ≡ cover_written s cells =
@@ -86,8 +86,8 @@ returns-in-Err-clause-goes g c =
     let xs = c.fill_buffer.new.sectors.items in
     let with_head : ℕ → LogRecord = λ head. record { position = head; tail = head; first = old.durable + 1; commits = 0; images = [] } in
     let same_item : with_head c.head-head.result ≡ cover_record s = ap with_head c.head-head.ensures.head in
-    let spelled_is : take 1 xs ≡ spelled (cover_record s) = c.fill_buffer.ensures.spelled ∙ ap spelled same_item in
-    let pieces_is : take 1 c.deref.result.now ≡ spelled (cover_record s) = ap (λ (l : List Sector). take 1 l) c.deref.ensures.value ∙ spelled_is in
+    let encoded_is : take 1 xs ≡ encoded (cover_record s) = c.fill_buffer.ensures.encoded ∙ ap encoded same_item in
+    let pieces_is : take 1 c.deref.result.now ≡ encoded (cover_record s) = ap (λ (l : List Sector). take 1 l) c.deref.ensures.value ∙ encoded_is in
     let place_is : old.anchor + 1 + c.place.result ≡ place_of old.anchor old.ring old.positions.head =
     ap (λ (n : ℕ). old.anchor + 1 + n) (c.place.ensures.place ∙ ap (λ (n : ℕ). n % old.positions.ring) c.head-head.ensures.head ∙ ap (λ (n : ℕ). old.positions.head % n) sound.ring) in
     let cells_is : written (old.anchor + 1 + c.place.result) (take 1 c.deref.result.now) cells ≡ cover_written s cells =
@@ -104,13 +104,13 @@ returns-in-Err-clause-goes g c =
     } in
     let images : IsTrue g.D.Disk.told → (image : List Sector) → IsImage (cover_written s cells) image → ReplaysTo s cells image = λ tells image is.
     c.cover_flights.ensures.written s cells image (covers old.stage tells) (ring_fits tells) end is in
-    let partly : IsTrue g.D.Disk.told → IsPartlyWritten (place_of old.anchor old.ring old.positions.head) (spelled (cover_record s)) cells (g.D.Disk.cells disk) = λ tells.
+    let partly : IsTrue g.D.Disk.told → IsPartlyWritten (place_of old.anchor old.ring old.positions.head) (encoded (cover_record s)) cells (g.D.Disk.cells disk) = λ tells.
     subst (λ (l : List Sector). IsPartlyWritten (place_of old.anchor old.ring old.positions.head) l cells (g.D.Disk.cells disk)) pieces_is
     (subst (λ (n : ℕ). IsPartlyWritten n (take 1 c.deref.result.now) cells (g.D.Disk.cells disk)) place_is (c.in-Err.ensures.failed tells)) in
     subst (λ (x : Store g.row.D.Denot). Goes g.D.Disk.told g.D.Disk.cells g.D.Disk.sector_count g.D.Disk.moment g.D.Disk.left_since old x) (sym c.go_down.ensures)
     (falls g.D.Disk.told g.D.Disk.cells g.D.Disk.sector_count g.D.Disk.moment g.D.Disk.left_since old disk c.fill_buffer.new.sectors _ c.requires.store c.in-Err.ensures.sectors long
-    (λ tells. base-partly s (place_of old.anchor old.ring old.positions.head) (spelled (cover_record s)) cells (g.D.Disk.cells disk) (omega arith) (partly tells))
-    (λ tells image is. images tells image (IsImage-partly_written (place_of old.anchor old.ring old.positions.head) (spelled (cover_record s)) cells (g.D.Disk.cells disk) image (partly tells) is))
+    (λ tells. base-partly s (place_of old.anchor old.ring old.positions.head) (encoded (cover_record s)) cells (g.D.Disk.cells disk) (omega arith) (partly tells))
+    (λ tells image is. images tells image (IsImage-partly_written (place_of old.anchor old.ring old.positions.head) (encoded (cover_record s)) cells (g.D.Disk.cells disk) image (partly tells) is))
     (λ tells. leaves _ _ _ _ (cover_written s cells) (ReplaysTo s cells)
     (subst (λ (cs : List Cell). Elapses (g.D.Disk.moment old.disk) (g.D.Disk.moment disk) (g.D.Disk.left_since old.disk) (g.D.Disk.left_since disk) (IsImage cs)) cells_is (c.in-Err.ensures.time tells))
     (images tells)))

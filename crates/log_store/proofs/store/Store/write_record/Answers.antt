@@ -6,7 +6,7 @@ use Rattle.disk_model.specs.Disk.{Cell, IsImage, Elapses, IsPartlyWritten, writt
 use Rattle.disk_model.specs.DiskLaws.{IsImage-partly_written}
 use Rattle.log_record.specs.declared.image.Image.{Image}
 use Rattle.log_record.specs.declared.record.LogRecord.{LogRecord}
-use Rattle.log_record.specs.Spelling.{FitsFields, sector_count, spelled}
+use Rattle.log_record.specs.Encoding.{FitsFields, sector_count, encoded}
 use Rattle.log_image.specs.Step.{place_of}
 use Rattle.log_image.specs.Writes.{first_part, rest_part}
 use Rattle.log_store.specs.declared.store.Store.{Store}
@@ -56,11 +56,11 @@ returns-then-part-count-clause-goes g c =
     ap (λ (n : ℕ). with_head n c.tail.result c.images.result.now) c.head-head.ensures.head
     ∙ ap (λ (n : ℕ). with_head old.positions.head n c.images.result.now) c.tail.ensures.tail
     ∙ ap (λ (l : List Image). with_head old.positions.head old.positions.tail l) c.images.ensures in
-    let spelled_is : take old.count xs ≡ spelled (item_of s) = c.fill_buffer.ensures.spelled ∙ ap spelled same_item in
+    let encoded_is : take old.count xs ≡ encoded (item_of s) = c.fill_buffer.ensures.encoded ∙ ap encoded same_item in
     let fits_is = subst FitsFields same_item c.fill_buffer.ensures.fits in
     let least : c.min-part.result ≡ min old.count k = c.min-part.ensures ∙ ap (λ (n : ℕ). min old.count n) c.straight.ensures.left in
     let pieces_is : take c.min-part.result c.deref.result.now ≡ first_part old.ring (item_of s) =
-    ap (λ (l : List Sector). take c.min-part.result l) c.deref.ensures.value ∙ ap (λ (n : ℕ). take n xs) least ∙ front_part xs (spelled (item_of s)) old.count k spelled_is in
+    ap (λ (l : List Sector). take c.min-part.result l) c.deref.ensures.value ∙ ap (λ (n : ℕ). take n xs) least ∙ front_part xs (encoded (item_of s)) old.count k encoded_is in
     let place_is : old.anchor + 1 + c.place.result ≡ place_of old.anchor old.ring old.positions.head =
     ap (λ (n : ℕ). old.anchor + 1 + n) (c.place.ensures.place ∙ ap (λ (n : ℕ). n % old.positions.ring) c.head-head.ensures.head ∙ ap (λ (n : ℕ). old.positions.head % n) sound.ring) in
     let cells_is : written (old.anchor + 1 + c.place.result) (take c.min-part.result c.deref.result.now) cells ≡ half_written s cells =
@@ -83,7 +83,7 @@ returns-then-part-count-clause-goes g c =
       batch = taken_of old.queue.items old.taken old.batch c.requires.batch;
       fits = fits_is;
       size = c.requires.size;
-      spelled = spelled_is;
+      encoded = encoded_is;
       room = c.requires.room;
       end = end;
     } in
@@ -110,11 +110,11 @@ returns-else-part-count-clause-goes g c =
     ap (λ (n : ℕ). with_head n c.tail.result c.images.result.now) c.head-head.ensures.head
     ∙ ap (λ (n : ℕ). with_head old.positions.head n c.images.result.now) c.tail.ensures.tail
     ∙ ap (λ (l : List Image). with_head old.positions.head old.positions.tail l) c.images.ensures in
-    let spelled_is : take old.count xs ≡ spelled (item_of s) = c.fill_buffer.ensures.spelled ∙ ap spelled same_item in
+    let encoded_is : take old.count xs ≡ encoded (item_of s) = c.fill_buffer.ensures.encoded ∙ ap encoded same_item in
     let fits_is = subst FitsFields same_item c.fill_buffer.ensures.fits in
     let least : c.min-part.result ≡ min old.count k = c.min-part.ensures ∙ ap (λ (n : ℕ). min old.count n) c.straight.ensures.left in
     let pieces_is : take c.min-part.result c.deref.result.now ≡ first_part old.ring (item_of s) =
-    ap (λ (l : List Sector). take c.min-part.result l) c.deref.ensures.value ∙ ap (λ (n : ℕ). take n xs) least ∙ front_part xs (spelled (item_of s)) old.count k spelled_is in
+    ap (λ (l : List Sector). take c.min-part.result l) c.deref.ensures.value ∙ ap (λ (n : ℕ). take n xs) least ∙ front_part xs (encoded (item_of s)) old.count k encoded_is in
     let place_is : old.anchor + 1 + c.place.result ≡ place_of old.anchor old.ring old.positions.head =
     ap (λ (n : ℕ). old.anchor + 1 + n) (c.place.ensures.place ∙ ap (λ (n : ℕ). n % old.positions.ring) c.head-head.ensures.head ∙ ap (λ (n : ℕ). old.positions.head % n) sound.ring) in
     let cells_is : written (old.anchor + 1 + c.place.result) (take c.min-part.result c.deref.result.now) cells ≡ half_written s cells =
@@ -137,11 +137,11 @@ returns-else-part-count-clause-goes g c =
       batch = taken_of old.queue.items old.taken old.batch c.requires.batch;
       fits = fits_is;
       size = c.requires.size;
-      spelled = spelled_is;
+      encoded = encoded_is;
       room = c.requires.room;
       end = end;
     } in
-    let none : rest_part old.ring (item_of s) ≡ [] = no_rest xs (spelled (item_of s)) old.count k (omega (arith, c.if-part-count.false, least)) spelled_is in
+    let none : rest_part old.ring (item_of s) ≡ [] = no_rest xs (encoded (item_of s)) old.count k (omega (arith, c.if-part-count.false, least)) encoded_is in
     goes_written g.D.Disk.told g.D.Disk.cells g.D.Disk.sector_count g.D.Disk.moment g.D.Disk.left_since old disk c.fill_buffer.new.sectors Record c.requires.store
     (subst (λ (j : Job). JobFits Record j) (sym c.requires.job) tt)
     c.in-Ok.ensures.sectors long (flight Record)
@@ -165,11 +165,11 @@ returns-in-Err-clause-goes g c =
     ap (λ (n : ℕ). with_head n c.tail.result c.images.result.now) c.head-head.ensures.head
     ∙ ap (λ (n : ℕ). with_head old.positions.head n c.images.result.now) c.tail.ensures.tail
     ∙ ap (λ (l : List Image). with_head old.positions.head old.positions.tail l) c.images.ensures in
-    let spelled_is : take old.count xs ≡ spelled (item_of s) = c.fill_buffer.ensures.spelled ∙ ap spelled same_item in
+    let encoded_is : take old.count xs ≡ encoded (item_of s) = c.fill_buffer.ensures.encoded ∙ ap encoded same_item in
     let fits_is = subst FitsFields same_item c.fill_buffer.ensures.fits in
     let least : c.min-part.result ≡ min old.count k = c.min-part.ensures ∙ ap (λ (n : ℕ). min old.count n) c.straight.ensures.left in
     let pieces_is : take c.min-part.result c.deref.result.now ≡ first_part old.ring (item_of s) =
-    ap (λ (l : List Sector). take c.min-part.result l) c.deref.ensures.value ∙ ap (λ (n : ℕ). take n xs) least ∙ front_part xs (spelled (item_of s)) old.count k spelled_is in
+    ap (λ (l : List Sector). take c.min-part.result l) c.deref.ensures.value ∙ ap (λ (n : ℕ). take n xs) least ∙ front_part xs (encoded (item_of s)) old.count k encoded_is in
     let place_is : old.anchor + 1 + c.place.result ≡ place_of old.anchor old.ring old.positions.head =
     ap (λ (n : ℕ). old.anchor + 1 + n) (c.place.ensures.place ∙ ap (λ (n : ℕ). n % old.positions.ring) c.head-head.ensures.head ∙ ap (λ (n : ℕ). old.positions.head % n) sound.ring) in
     let cells_is : written (old.anchor + 1 + c.place.result) (take c.min-part.result c.deref.result.now) cells ≡ half_written s cells =
@@ -192,7 +192,7 @@ returns-in-Err-clause-goes g c =
       batch = taken_of old.queue.items old.taken old.batch c.requires.batch;
       fits = fits_is;
       size = c.requires.size;
-      spelled = spelled_is;
+      encoded = encoded_is;
       room = c.requires.room;
       end = end;
     } in

@@ -1,6 +1,6 @@
 use Rattle.std.proofs.Common.{◌≡◌, map, take}
 use Rattle.std.specs.List.{All}
-use Rattle.log_record.specs.Spelling.{FitsImage}
+use Rattle.log_record.specs.Encoding.{FitsImage}
 use Rattle.thin_image.specs.Inodes.{inode_image}
 use Rattle.thin_run.proofs.mount.Mount.next_record.Given as goal
 

@@ -1,14 +1,14 @@
 use Rattle.std.proofs.Common.{◌≡◌, ◌<◌, ◌==◌, if◌then◌else◌, ℕ, List, length, vec_len, ap, sym, ◌∙◌, arith, subst}
 use Rattle.life_bytes.specs.declared.sector.Sector.{Sector}
-use Rattle.log_record.specs.Spelling.{sector_count}
+use Rattle.log_record.specs.Encoding.{sector_count}
 use Rattle.thin_run.proofs.Homes.{needed-some}
 use Rattle.thin_run.proofs.mount.Mount.sync.Goals as goal
 
--- the sectors that were spelled are as many as are needed
-as_needed : (pending needed count spelled : ℕ) → needed ≡ (if pending == 0 then 0 else sector_count pending) → 0 < needed
-    → count ≡ spelled → spelled ≡ sector_count pending → count ≡ needed
-as_needed pending needed count spelled value some same spelled_is =
-    same ∙ spelled_is ∙ sym (needed-some pending (subst (λ (n : ℕ). 0 < n) value some)) ∙ sym value
+-- the sectors that were encoded are as many as are needed
+as_needed : (pending needed count encoded : ℕ) → needed ≡ (if pending == 0 then 0 else sector_count pending) → 0 < needed
+    → count ≡ encoded → encoded ≡ sector_count pending → count ≡ needed
+as_needed pending needed count encoded value some same encoded_is =
+    same ∙ encoded_is ∙ sym (needed-some pending (subst (λ (n : ℕ). 0 < n) value some)) ∙ sym value
 
 pub write-requires-clause-some : goal.write-requires-clause-some
 write-requires-clause-some g c =

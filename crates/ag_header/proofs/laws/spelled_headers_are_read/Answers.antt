@@ -1,5 +1,0 @@
-use Rattle.ag_header.proofs.Spelled.{headers_are_read}
-use Rattle.ag_header.proofs.laws.spelled_headers_are_read.Goals as goal
-
-pub returns : goal.returns
-returns c = headers_are_read

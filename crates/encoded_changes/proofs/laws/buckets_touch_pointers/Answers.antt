@@ -1,0 +1,14 @@
+use Rattle.encoded_changes.proofs.Buckets.{put_touches, taken_touches, one_before, none_before}
+use Rattle.encoded_changes.proofs.laws.buckets_touch_pointers.Goals as goal
+
+pub returns-clause-put : goal.returns-clause-put
+returns-clause-put c = put_touches
+
+pub returns-clause-taken : goal.returns-clause-taken
+returns-clause-taken c = taken_touches
+
+pub returns-clause-one_before : goal.returns-clause-one_before
+returns-clause-one_before c = one_before
+
+pub returns-clause-none_before : goal.returns-clause-none_before
+returns-clause-none_before c = none_before

@@ -1,0 +1,11 @@
+//! What changes of an image that encodes a table, when the table and its layouts change. There is no code: it is definitions (`specs/`) and laws.
+#![tactic(auto)]
+
+mod laws;
+
+pub use laws::{
+    bitmaps_touch_their_part, buckets_touch_pointers, chunks_touch_themselves,
+    created_keys_are_free, creates_touch_their_inode, groups_change_alone, images_tell_changes,
+    inodes_touch_themselves, layouts_follow_the_table, links_are_told, places_have_their_metadata,
+    rows_touch_their_bucket, encodings_follow_the_table,
+};

@@ -1,5 +1,0 @@
-use Rattle.extent_fork.proofs.LongestRuns.{forks_are_read}
-use Rattle.extent_fork.proofs.laws.spelled_forks_are_read.Goals as goal
-
-pub returns : goal.returns
-returns c = forks_are_read

@@ -1,5 +1,0 @@
-use Rattle.inobt_leaf.proofs.Whole.{pages_are_read}
-use Rattle.inobt_leaf.proofs.laws.spelled_pages_are_read.Goals as goal
-
-pub returns : goal.returns
-returns c = pages_are_read

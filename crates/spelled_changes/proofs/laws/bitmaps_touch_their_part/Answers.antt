@@ -1,5 +1,0 @@
-use Rattle.spelled_changes.proofs.Bitmaps.{bitmap_touches}
-use Rattle.spelled_changes.proofs.laws.bitmaps_touch_their_part.Goals as goal
-
-pub returns : goal.returns
-returns c = bitmap_touches

@@ -1,5 +1,0 @@
-use Rattle.spelled_changes.proofs.Touched.{create_touches}
-use Rattle.spelled_changes.proofs.laws.creates_touch_their_inode.Goals as goal
-
-pub returns : goal.returns
-returns c = create_touches

@@ -1,5 +1,0 @@
-use Rattle.spelled_changes.proofs.Inodes.{inode_touches}
-use Rattle.spelled_changes.proofs.laws.inodes_touch_themselves.Goals as goal
-
-pub returns : goal.returns
-returns c = inode_touches
