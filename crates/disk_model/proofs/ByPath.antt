@@ -43,8 +43,8 @@ module _ {D : Type 0} (m n : BTreeMap (String Global) D) (path : List ℕ) (w : 
       ∙ ap (λ b. cond b w (get_by_text m other)) (bytes_eq-differ path other differs)
       ∙ sym (lookup-by_path m.entries other)
 
--- the disk that stands at a path has the image that is told of it
-pub IfSome-image_of : {D : Type 0} (told : Bool) (cells : D → List Cell) (stands : Option D) (disk : D) → stands ≡ Some disk → HasOneImage (cells disk) → IfSome (image_of told cells stands) (λ image. cells disk ≡ settled_as image)
+-- the disk that stands at a path has the image that is known of it
+pub IfSome-image_of : {D : Type 0} (known : Bool) (cells : D → List Cell) (stands : Option D) (disk : D) → stands ≡ Some disk → HasOneImage (cells disk) → IfSome (image_of known cells stands) (λ image. cells disk ≡ settled_as image)
 IfSome-image_of true cells None disk same one = tt
 IfSome-image_of true cells (Some other) disk same one =
     let there : other ≡ disk = cc in

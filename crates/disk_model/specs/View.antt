@@ -7,13 +7,13 @@ use Rattle.disk_model.specs.Disk.{Cell, IsImage, Elapses, Arming}
 
 -- Between two states of a disk there were only reads: it holds the same, nothing else is armed, and what a stop may have left
 -- since any moment, it might have left before, or it is an image of what the disk holds. Its count of faults may have risen.
-pub record OnlyRead {D : Type 0} (told : Bool) (cells : D → List Cell) (sector_count fault_count : D → ℕ) (arming : D → Arming)
+pub record OnlyRead {D : Type 0} (known : Bool) (cells : D → List Cell) (sector_count fault_count : D → ℕ) (arming : D → Arming)
     (moment : D → ℕ) (left : D → ℕ → List Sector → Type 0) (old new : D) : Type 0 where
   pub cells_stay : cells new ≡ cells old
   pub sectors : sector_count new ≡ sector_count old
   pub armed : arming new ≡ arming old
   pub count : NeverFalls (fault_count old) (fault_count new)
-  pub time : IsTrue told → Elapses (moment old) (moment new) (left old) (left new) (IsImage (cells old))
+  pub time : IsTrue known → Elapses (moment old) (moment new) (left old) (left new) (IsImage (cells old))
 
 -- ---- no read, and more reads
 
@@ -30,9 +30,9 @@ Elapses-both first second third one two three in_call a b = record {
   keeps = λ since image le was. b.keeps since image (omega (arith, le, a.later)) (a.keeps since image le was);
 }
 
-pub OnlyRead-none : {D : Type 0} (told : Bool) (cells : D → List Cell) (sector_count fault_count : D → ℕ) (arming : D → Arming)
-    (moment : D → ℕ) (left : D → ℕ → List Sector → Type 0) (disk : D) → OnlyRead told cells sector_count fault_count arming moment left disk disk
-OnlyRead-none told cells sector_count fault_count arming moment left disk = record {
+pub OnlyRead-none : {D : Type 0} (known : Bool) (cells : D → List Cell) (sector_count fault_count : D → ℕ) (arming : D → Arming)
+    (moment : D → ℕ) (left : D → ℕ → List Sector → Type 0) (disk : D) → OnlyRead known cells sector_count fault_count arming moment left disk disk
+OnlyRead-none known cells sector_count fault_count arming moment left disk = record {
   cells_stay = refl;
   sectors = refl;
   armed = refl;
@@ -40,11 +40,11 @@ OnlyRead-none told cells sector_count fault_count arming moment left disk = reco
   time = λ tells. Elapses-none (moment disk) (left disk) (IsImage (cells disk));
 }
 
-pub OnlyRead-both : {D : Type 0} (told : Bool) (cells : D → List Cell) (sector_count fault_count : D → ℕ) (arming : D → Arming)
+pub OnlyRead-both : {D : Type 0} (known : Bool) (cells : D → List Cell) (sector_count fault_count : D → ℕ) (arming : D → Arming)
     (moment : D → ℕ) (left : D → ℕ → List Sector → Type 0) (first second third : D)
-    → OnlyRead told cells sector_count fault_count arming moment left first second → OnlyRead told cells sector_count fault_count arming moment left second third
-    → OnlyRead told cells sector_count fault_count arming moment left first third
-OnlyRead-both told cells sector_count fault_count arming moment left first second third a b = record {
+    → OnlyRead known cells sector_count fault_count arming moment left first second → OnlyRead known cells sector_count fault_count arming moment left second third
+    → OnlyRead known cells sector_count fault_count arming moment left first third
+OnlyRead-both known cells sector_count fault_count arming moment left first second third a b = record {
   cells_stay = b.cells_stay ∙ a.cells_stay;
   sectors = b.sectors ∙ a.sectors;
   armed = b.armed ∙ a.armed;

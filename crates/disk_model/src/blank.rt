@@ -12,6 +12,6 @@ pub trait Blank: Disk + Sized {
     /// A disk of so many sectors of zero bytes, which is all that a stop may leave.
     fn blank(alloc: Global, sectors: u64) -> Result<Self, NoMemory>
         ensures sectors { IfOk result (λ disk. Self.sector_count disk ≡ sectors) }
-        ensures blank { IfOk result (λ disk. IsTrue Self.told →
+        ensures blank { IfOk result (λ disk. IsTrue Self.known →
             Self.cells disk ≡ settled_as (replicate sectors zero_sector)) };
 }

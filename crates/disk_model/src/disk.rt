@@ -12,10 +12,10 @@ use life_ports::Failed;
 ///
 /// A sector is written whole or not at all. Until a flush succeeds, a stop may leave in a sector what was
 /// there at the last flush that succeeded, or any value that was written since. Where a disk does not tell
-/// what it holds (`told` is false), nothing is said of its content.
+/// what it holds (`known` is false), nothing is said of its content.
 pub trait Disk: Drop {
     /// Whether disks of this kind tell what they hold.
-    ghost told: { Bool };
+    ghost known: { Bool };
 
     /// The number of sectors, which no call changes.
     ghost sector_count: { Self → ℕ };
@@ -47,9 +47,9 @@ pub trait Disk: Drop {
     /// Reads the sector `at`. After `Failed` nothing is said of `into`.
     fn read(&mut self, at: u64, into: &mut Sector) -> Result<(), Failed>
         requires { at < sector_count self.old }
-        ensures read { IsTrue told → OnOk result (slice_get (as_read (cells self.old)) at ≡ Some into.new) }
+        ensures read { IsTrue known → OnOk result (slice_get (as_read (cells self.old)) at ≡ Some into.new) }
         ensures cells { cells self.new ≡ cells self.old }
-        ensures time { IsTrue told → Elapses (moment self.old) (moment self.new) (left_since self.old)
+        ensures time { IsTrue known → Elapses (moment self.old) (moment self.new) (left_since self.old)
             (left_since self.new) (IsImage (cells self.old)) }
         ensures sectors { sector_count self.new ≡ sector_count self.old }
         ensures arming { arming self.new ≡ arming self.old }
@@ -59,9 +59,9 @@ pub trait Disk: Drop {
     fn write(&mut self, at: u64, pieces: &[Sector]) -> Result<(), Failed>
         requires some { 0 < length pieces.now }
         requires within { at + length pieces.now ≤ sector_count self.old }
-        ensures written { IsTrue told → OnOk result (cells self.new ≡ written at pieces.now (cells self.old)) }
-        ensures failed { IsTrue told → OnErr result (IsPartlyWritten at pieces.now (cells self.old) (cells self.new)) }
-        ensures time { IsTrue told → Elapses (moment self.old) (moment self.new) (left_since self.old)
+        ensures written { IsTrue known → OnOk result (cells self.new ≡ written at pieces.now (cells self.old)) }
+        ensures failed { IsTrue known → OnErr result (IsPartlyWritten at pieces.now (cells self.old) (cells self.new)) }
+        ensures time { IsTrue known → Elapses (moment self.old) (moment self.new) (left_since self.old)
             (left_since self.new) (IsImage (written at pieces.now (cells self.old))) }
         ensures sectors { sector_count self.new ≡ sector_count self.old }
         ensures arming { arming self.new ≡ after_write (arming self.old) }
@@ -69,22 +69,22 @@ pub trait Disk: Drop {
 
     /// After it has succeeded, a stop leaves what a read gives. One that failed settles nothing.
     fn flush(&mut self) -> Result<(), Failed>
-        ensures flushed { IsTrue told → OnOk result (cells self.new ≡ flushed (cells self.old)) }
+        ensures flushed { IsTrue known → OnOk result (cells self.new ≡ flushed (cells self.old)) }
         ensures failed { OnErr result (cells self.new ≡ cells self.old) }
-        ensures time { IsTrue told → Elapses (moment self.old) (moment self.new) (left_since self.old)
+        ensures time { IsTrue known → Elapses (moment self.old) (moment self.new) (left_since self.old)
             (left_since self.new) (IsImage (cells self.old)) }
         ensures sectors { sector_count self.new ≡ sector_count self.old }
         ensures arming { arming self.new ≡ arming self.old }
         ensures cause { HasCause result (fault_count self.old) (fault_count self.new) };
 
     /// Each sector has its cell.
-    ghost cells_fit: { IsTrue told → (disk : Self) → length (cells disk) ≡ sector_count disk };
+    ghost cells_fit: { IsTrue known → (disk : Self) → length (cells disk) ≡ sector_count disk };
 
     /// This moment is one of those since an earlier one.
-    ghost counts_now: { IsTrue told → (disk : Self) (since : ℕ) (image : List Sector) → since ≤ moment disk
+    ghost counts_now: { IsTrue known → (disk : Self) (since : ℕ) (image : List Sector) → since ≤ moment disk
         → IsImage (cells disk) image → left_since disk since image };
 
     /// Since this moment there is no other.
-    ghost only_now: { IsTrue told → (disk : Self) (image : List Sector)
+    ghost only_now: { IsTrue known → (disk : Self) (image : List Sector)
         → left_since disk (moment disk) image → IsImage (cells disk) image };
 }

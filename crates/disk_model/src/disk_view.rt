@@ -27,7 +27,7 @@ impl<'a, D: Disk> DiskView<'a, D> {
 }
 
 impl<'a, D: Disk> View for DiskView<'a, D> {
-    ghost told = { D.told };
+    ghost known = { D.known };
 
     ghost sector_count = { λ view. D.sector_count view.disk.now };
 
@@ -36,21 +36,21 @@ impl<'a, D: Disk> View for DiskView<'a, D> {
     ghost image = { λ view. as_read (D.cells view.disk.now) };
 
     ghost only_read = { λ old new. (new.disk.ghost_name ≡ old.disk.ghost_name)
-        × OnlyRead D.told D.cells D.sector_count D.fault_count D.arming D.moment D.left_since
+        × OnlyRead D.known D.cells D.sector_count D.fault_count D.arming D.moment D.left_since
         old.disk.now new.disk.now };
 
-    ghost image_fits = { λ told view.
-        length-as_read (D.cells view.disk.now) ∙ D.cells_fit told view.disk.now };
+    ghost image_fits = { λ known view.
+        length-as_read (D.cells view.disk.now) ∙ D.cells_fit known view.disk.now };
 
     ghost no_read = { λ view. (
       refl,
-      OnlyRead-none D.told D.cells D.sector_count D.fault_count D.arming
+      OnlyRead-none D.known D.cells D.sector_count D.fault_count D.arming
           D.moment D.left_since view.disk.now,
     ) };
 
     ghost both_read = { λ first second third one two. (
       two.0 ∙ one.0,
-      OnlyRead-both D.told D.cells
+      OnlyRead-both D.known D.cells
           D.sector_count D.fault_count D.arming D.moment D.left_since first.disk.now second.disk.now
           third.disk.now one.1 two.1,
     ) };

@@ -48,7 +48,7 @@ impl<D: Blank> Blank for FaultDisk<D> {
     fn blank(alloc: Global, sectors: u64) -> Result<FaultDisk<D>, NoMemory>
         ensures plan { IfOk result (λ disk. plan_of disk ≡ record { fails = []; calls = 0; faults = 0 }) }
         ensures sectors { IfOk result (λ disk. D.sector_count (inner_of disk) ≡ sectors) }
-        ensures blank { IfOk result (λ disk. IsTrue D.told →
+        ensures blank { IfOk result (λ disk. IsTrue D.known →
             D.cells (inner_of disk) ≡ settled_as (replicate sectors zero_sector)) }
     {
         Ok(FaultDisk::new(D::blank(alloc, sectors)?, Vec::new(alloc)))
@@ -58,7 +58,7 @@ impl<D: Blank> Blank for FaultDisk<D> {
 impl<D: Disk> Disk for FaultDisk<D> {
     ghost use Rattle.disk_model.specs.FaultDisk.{inner_of, plan_of};
 
-    ghost told = { D.told };
+    ghost known = { D.known };
 
     ghost sector_count = { λ disk. D.sector_count disk.inner };
 
@@ -70,11 +70,11 @@ impl<D: Disk> Disk for FaultDisk<D> {
 
     ghost left_since = { λ disk. D.left_since disk.inner };
 
-    ghost cells_fit = { λ told disk. D.cells_fit told disk.inner };
+    ghost cells_fit = { λ known disk. D.cells_fit known disk.inner };
 
-    ghost counts_now = { λ told disk. D.counts_now told disk.inner };
+    ghost counts_now = { λ known disk. D.counts_now known disk.inner };
 
-    ghost only_now = { λ told disk. D.only_now told disk.inner };
+    ghost only_now = { λ known disk. D.only_now known disk.inner };
 
     fn sectors(&self) -> u64 {
         self.inner.sectors()
@@ -95,10 +95,10 @@ impl<D: Disk> Disk for FaultDisk<D> {
         ensures ok { OnOk result (plan_of self.new ≡ after_call (plan_of self.old)) }
         ensures err { OnErr result (plan_of self.new ≡ after_fault (after_call (plan_of self.old))) }
 
-        ensures read { IsTrue D.told → OnOk result
+        ensures read { IsTrue D.known → OnOk result
             (slice_get (as_read (D.cells (inner_of self.old))) at ≡ Some into.new) }
         ensures cells { D.cells (inner_of self.new) ≡ D.cells (inner_of self.old) }
-        ensures time { IsTrue D.told → Elapses (D.moment (inner_of self.old)) (D.moment (inner_of self.new))
+        ensures time { IsTrue D.known → Elapses (D.moment (inner_of self.old)) (D.moment (inner_of self.new))
             (D.left_since (inner_of self.old)) (D.left_since (inner_of self.new))
             (IsImage (D.cells (inner_of self.old))) }
         ensures sectors { D.sector_count (inner_of self.new) ≡ D.sector_count (inner_of self.old) }
@@ -123,11 +123,11 @@ impl<D: Disk> Disk for FaultDisk<D> {
         ensures ok { OnOk result (plan_of self.new ≡ after_call (plan_of self.old)) }
         ensures err { OnErr result (plan_of self.new ≡ after_fault (after_call (plan_of self.old))) }
 
-        ensures written { IsTrue D.told → OnOk result (D.cells (inner_of self.new)
+        ensures written { IsTrue D.known → OnOk result (D.cells (inner_of self.new)
             ≡ written at pieces.now (D.cells (inner_of self.old))) }
-        ensures failed { IsTrue D.told → OnErr result (IsPartlyWritten at pieces.now
+        ensures failed { IsTrue D.known → OnErr result (IsPartlyWritten at pieces.now
             (D.cells (inner_of self.old)) (D.cells (inner_of self.new))) }
-        ensures time { IsTrue D.told → Elapses (D.moment (inner_of self.old)) (D.moment (inner_of self.new))
+        ensures time { IsTrue D.known → Elapses (D.moment (inner_of self.old)) (D.moment (inner_of self.new))
             (D.left_since (inner_of self.old)) (D.left_since (inner_of self.new))
             (IsImage (written at pieces.now (D.cells (inner_of self.old)))) }
         ensures sectors { D.sector_count (inner_of self.new) ≡ D.sector_count (inner_of self.old) }
@@ -149,10 +149,10 @@ impl<D: Disk> Disk for FaultDisk<D> {
         ensures ok { OnOk result (plan_of self.new ≡ after_call (plan_of self.old)) }
         ensures err { OnErr result (plan_of self.new ≡ after_fault (after_call (plan_of self.old))) }
 
-        ensures flushed { IsTrue D.told → OnOk result (D.cells (inner_of self.new)
+        ensures flushed { IsTrue D.known → OnOk result (D.cells (inner_of self.new)
             ≡ flushed (D.cells (inner_of self.old))) }
         ensures failed { OnErr result (D.cells (inner_of self.new) ≡ D.cells (inner_of self.old)) }
-        ensures time { IsTrue D.told → Elapses (D.moment (inner_of self.old)) (D.moment (inner_of self.new))
+        ensures time { IsTrue D.known → Elapses (D.moment (inner_of self.old)) (D.moment (inner_of self.new))
             (D.left_since (inner_of self.old)) (D.left_since (inner_of self.new))
             (IsImage (D.cells (inner_of self.old))) }
         ensures sectors { D.sector_count (inner_of self.new) ≡ D.sector_count (inner_of self.old) }

@@ -20,7 +20,7 @@ pub trait Images {
     /// How many faults there were.
     ghost fault_count: { Self → ℕ };
 
-    /// The image that stands at a path, where it is told.
+    /// The image that stands at a path, where it is known.
     ghost image_at: { Self → List ℕ → Option (List Sector) };
 
     /// The count of faults. It stands still at `u64::MAX`.
@@ -30,8 +30,8 @@ pub trait Images {
     /// Gives the disk that stands at a path. It has one image.
     fn attach(&mut self, path: &str) -> Result<Self::Disk, Refused>
         ensures given { IfOk result (λ disk. given self.new ≡ given self.old ++ attached path.now (Self.Disk.fault_count disk) ∷ []) }
-        ensures one_image { IfOk result (λ disk. IsTrue Self.Disk.told → HasOneImage (Self.Disk.cells disk)) }
-        ensures image { IfOk result (λ disk. IsTrue Self.Disk.told → IfSome (image_at self.old path.now)
+        ensures one_image { IfOk result (λ disk. IsTrue Self.Disk.known → HasOneImage (Self.Disk.cells disk)) }
+        ensures image { IfOk result (λ disk. IsTrue Self.Disk.known → IfSome (image_at self.old path.now)
             (λ image. Self.Disk.cells disk ≡ settled_as image)) }
         ensures refused { OnErr result (given self.new ≡ given self.old) }
         ensures others { (other : List ℕ) → other ≢ path.now → image_at self.new other ≡ image_at self.old other }
@@ -41,7 +41,7 @@ pub trait Images {
     fn create(&mut self, path: &str, sectors: u64) -> Result<Self::Disk, Refused>
         ensures given { IfOk result (λ disk. given self.new ≡ given self.old ++ created path.now (Self.Disk.fault_count disk) ∷ []) }
         ensures sectors { IfOk result (λ disk. Self.Disk.sector_count disk ≡ sectors) }
-        ensures blank { IfOk result (λ disk. IsTrue Self.Disk.told → Self.Disk.cells disk ≡ settled_as (replicate sectors zero_sector)) }
+        ensures blank { IfOk result (λ disk. IsTrue Self.Disk.known → Self.Disk.cells disk ≡ settled_as (replicate sectors zero_sector)) }
         ensures taken { IsSome (image_at self.old path.now) → IsErr result }
         ensures refused { OnErr result (given self.new ≡ given self.old) }
         ensures others { (other : List ℕ) → other ≢ path.now → image_at self.new other ≡ image_at self.old other }

@@ -149,7 +149,7 @@ impl Blank for MemoryDisk {
 }
 
 impl Disk for MemoryDisk {
-    ghost told = { true };
+    ghost known = { true };
 
     ghost sector_count = { λ disk. length (cells_of disk) };
 

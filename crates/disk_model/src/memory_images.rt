@@ -66,7 +66,7 @@ impl<D: Disk> Model for MemoryImages<D> {
     ghost view = { λ m. record
         { disks = by_path m.disks.entries; given = gifts_given m.gifts.items; plan = m.plan } };
 
-    ghost invariant = { λ m. IsTrue D.told → All (λ disk. HasOneImage (D.cells disk)) (values m.disks) };
+    ghost invariant = { λ m. IsTrue D.known → All (λ disk. HasOneImage (D.cells disk)) (values m.disks) };
 }
 
 impl<D: Disk> MemoryImages<D> {
@@ -94,7 +94,7 @@ impl<D: Disk> MemoryImages<D> {
     /// Puts a disk at a path where none stands. Where there is no memory, the disk comes back.
     pub fn add(&mut self, path: &str, disk: D) -> Result<(), (D, NoMemory)>
         requires free { disk_at self.old path.now ≡ None }
-        requires one_image { IsTrue D.told → HasOneImage (D.cells disk) }
+        requires one_image { IsTrue D.known → HasOneImage (D.cells disk) }
         ensures stands { OnOk result (disk_at self.new path.now ≡ Some disk) }
         ensures others { KeepsOthers path.now self.old self.new }
         ensures given { self.new.given ≡ self.old.given }
@@ -119,7 +119,7 @@ impl<D: Blank + Send> Images for MemoryImages<D> {
 
     ghost fault_count = { λ images. images.plan.faults };
 
-    ghost image_at = { λ images path. image_of D.told D.cells (disk_at images path) };
+    ghost image_at = { λ images path. image_of D.known D.cells (disk_at images path) };
 
     fn faults(&self) -> u64 {
         self.plan.faults()
@@ -145,9 +145,9 @@ impl<D: Blank + Send> Images for MemoryImages<D> {
 
         ensures given { IfOk result (λ disk. self.new.given
             ≡ self.old.given ++ attached path.now (D.fault_count disk) ∷ []) }
-        ensures one_image { IfOk result (λ disk. IsTrue D.told → HasOneImage (D.cells disk)) }
-        ensures image { IfOk result (λ disk. IsTrue D.told →
-            IfSome (image_of D.told D.cells (disk_at self.old path.now))
+        ensures one_image { IfOk result (λ disk. IsTrue D.known → HasOneImage (D.cells disk)) }
+        ensures image { IfOk result (λ disk. IsTrue D.known →
+            IfSome (image_of D.known D.cells (disk_at self.old path.now))
             (λ image. D.cells disk ≡ settled_as image)) }
         ensures refused { OnErr result (self.new.given ≡ self.old.given) }
         ensures cause { HasCauseOrNoMemory result self.old.plan.faults self.new.plan.faults }
@@ -181,7 +181,7 @@ impl<D: Blank + Send> Images for MemoryImages<D> {
         ensures given { IfOk result (λ disk. self.new.given
             ≡ self.old.given ++ made path.now (D.fault_count disk) ∷ []) }
         ensures sectors { IfOk result (λ disk. D.sector_count disk ≡ sectors) }
-        ensures blank { IfOk result (λ disk. IsTrue D.told →
+        ensures blank { IfOk result (λ disk. IsTrue D.known →
             D.cells disk ≡ settled_as (replicate sectors zero_sector)) }
         ensures refused { OnErr result (self.new.given ≡ self.old.given) }
         ensures cause { HasCauseOrNoMemory result self.old.plan.faults self.new.plan.faults }

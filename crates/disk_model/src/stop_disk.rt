@@ -98,10 +98,10 @@ impl<D: Disk> StopDisk<D> {
         ensures arming { arming_of self.new ≡ record (arming_of self.old)
             { armed = Some (record { writes = 0; sectors = sectors }); stopped = true } }
         ensures failures { failures_of self.new ≡ next_count (failures_of self.old) }
-        ensures passes { IsTrue D.told → Passes at (take sectors pieces.now)
+        ensures passes { IsTrue D.known → Passes at (take sectors pieces.now)
             (D.fault_count (inner_of self.old)) (D.fault_count (inner_of self.new))
             (D.cells (inner_of self.old)) (D.cells (inner_of self.new)) }
-        ensures time { IsTrue D.told → Elapses (D.moment (inner_of self.old)) (D.moment (inner_of self.new))
+        ensures time { IsTrue D.known → Elapses (D.moment (inner_of self.old)) (D.moment (inner_of self.new))
             (D.left_since (inner_of self.old)) (D.left_since (inner_of self.new))
             (IsImage (written at (take sectors pieces.now) (D.cells (inner_of self.old)))) }
         ensures sectors { D.sector_count (inner_of self.new) ≡ D.sector_count (inner_of self.old) }
@@ -120,7 +120,7 @@ impl<D: Disk> StopDisk<D> {
 impl<D: Disk> Disk for StopDisk<D> {
     ghost use Rattle.disk_model.specs.StopDisk.{inner_of, arming_of, failures_of, faults_of, HasStopped, GoesOn, StopsNext, Passes};
 
-    ghost told = { D.told };
+    ghost known = { D.known };
 
     ghost sector_count = { λ disk. D.sector_count disk.inner };
 
@@ -134,11 +134,11 @@ impl<D: Disk> Disk for StopDisk<D> {
 
     ghost arming = { λ disk. arming_of disk };
 
-    ghost cells_fit = { λ told disk. D.cells_fit told disk.inner };
+    ghost cells_fit = { λ known disk. D.cells_fit known disk.inner };
 
-    ghost counts_now = { λ told disk. D.counts_now told disk.inner };
+    ghost counts_now = { λ known disk. D.counts_now known disk.inner };
 
-    ghost only_now = { λ told disk. D.only_now told disk.inner };
+    ghost only_now = { λ known disk. D.only_now known disk.inner };
 
     fn sectors(&self) -> u64 {
         self.inner.sectors()
@@ -160,10 +160,10 @@ impl<D: Disk> Disk for StopDisk<D> {
             HasCause result (D.fault_count (inner_of self.old)) (D.fault_count (inner_of self.new))
             × (failures_of self.new ≡ failures_of self.old) }
 
-        ensures read { IsTrue D.told → OnOk result
+        ensures read { IsTrue D.known → OnOk result
             (slice_get (as_read (D.cells (inner_of self.old))) at ≡ Some into.new) }
         ensures cells { D.cells (inner_of self.new) ≡ D.cells (inner_of self.old) }
-        ensures time { IsTrue D.told → Elapses (D.moment (inner_of self.old)) (D.moment (inner_of self.new))
+        ensures time { IsTrue D.known → Elapses (D.moment (inner_of self.old)) (D.moment (inner_of self.new))
             (D.left_since (inner_of self.old)) (D.left_since (inner_of self.new))
             (IsImage (D.cells (inner_of self.old))) }
         ensures sectors { D.sector_count (inner_of self.new) ≡ D.sector_count (inner_of self.old) }
@@ -185,18 +185,18 @@ impl<D: Disk> Disk for StopDisk<D> {
             × (failures_of self.new ≡ next_count (failures_of self.old)) }
         ensures stops { (sectors : ℕ) → StopsNext (arming_of self.old) sectors → IsErr result
             × (failures_of self.new ≡ next_count (failures_of self.old))
-            × (IsTrue D.told → Passes at (take sectors pieces.now)
+            × (IsTrue D.known → Passes at (take sectors pieces.now)
             (D.fault_count (inner_of self.old)) (D.fault_count (inner_of self.new))
             (D.cells (inner_of self.old)) (D.cells (inner_of self.new))) }
         ensures goes_on { GoesOn (arming_of self.new) →
             HasCause result (D.fault_count (inner_of self.old)) (D.fault_count (inner_of self.new))
             × (failures_of self.new ≡ failures_of self.old) }
 
-        ensures written { IsTrue D.told → OnOk result (D.cells (inner_of self.new)
+        ensures written { IsTrue D.known → OnOk result (D.cells (inner_of self.new)
             ≡ written at pieces.now (D.cells (inner_of self.old))) }
-        ensures failed { IsTrue D.told → OnErr result (IsPartlyWritten at pieces.now
+        ensures failed { IsTrue D.known → OnErr result (IsPartlyWritten at pieces.now
             (D.cells (inner_of self.old)) (D.cells (inner_of self.new))) }
-        ensures time { IsTrue D.told → Elapses (D.moment (inner_of self.old)) (D.moment (inner_of self.new))
+        ensures time { IsTrue D.known → Elapses (D.moment (inner_of self.old)) (D.moment (inner_of self.new))
             (D.left_since (inner_of self.old)) (D.left_since (inner_of self.new))
             (IsImage (written at pieces.now (D.cells (inner_of self.old)))) }
         ensures sectors { D.sector_count (inner_of self.new) ≡ D.sector_count (inner_of self.old) }
@@ -228,10 +228,10 @@ impl<D: Disk> Disk for StopDisk<D> {
             HasCause result (D.fault_count (inner_of self.old)) (D.fault_count (inner_of self.new))
             × (failures_of self.new ≡ failures_of self.old) }
 
-        ensures flushed { IsTrue D.told → OnOk result (D.cells (inner_of self.new)
+        ensures flushed { IsTrue D.known → OnOk result (D.cells (inner_of self.new)
             ≡ flushed (D.cells (inner_of self.old))) }
         ensures failed { OnErr result (D.cells (inner_of self.new) ≡ D.cells (inner_of self.old)) }
-        ensures time { IsTrue D.told → Elapses (D.moment (inner_of self.old)) (D.moment (inner_of self.new))
+        ensures time { IsTrue D.known → Elapses (D.moment (inner_of self.old)) (D.moment (inner_of self.new))
             (D.left_since (inner_of self.old)) (D.left_since (inner_of self.new))
             (IsImage (D.cells (inner_of self.old))) }
         ensures sectors { D.sector_count (inner_of self.new) ≡ D.sector_count (inner_of self.old) }

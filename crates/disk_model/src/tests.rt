@@ -7,7 +7,7 @@ use life_ports::{Failed, NoMemory, Refused};
 use std::alloc::Global;
 use std::test::Fail;
 
-// A sector that is told from others by its first byte.
+// A sector that is known from others by its first byte.
 fn marked(mark: u8) -> Sector {
     let mut sector = Sector::zero();
     sector.bytes[0] = mark;
@@ -79,7 +79,7 @@ fn look<V: View>(view: &mut V, at: u64) -> (Result<(), Failed>, u8, u64)
 // The same of a disk that is lent, from its last sector down to the one before.
 fn look_twice<D: Disk>(disk: &mut D) -> [(Result<(), Failed>, u8, u64); 2]
     requires { 2 ≤ D.sector_count disk.old }
-    ensures { OnlyRead D.told D.cells D.sector_count D.fault_count D.arming D.moment D.left_since
+    ensures { OnlyRead D.known D.cells D.sector_count D.fault_count D.arming D.moment D.left_since
         disk.old disk.new }
 {
     let mut view = DiskView::new(disk);

@@ -12,7 +12,7 @@ use life_ports::Failed;
 /// that on: from it follows that what is read, the number of sectors and what the view stands on stay.
 pub trait View {
     /// Whether views of this kind tell what they hold.
-    ghost told: { Bool };
+    ghost known: { Bool };
 
     /// The number of sectors, which no call changes.
     ghost sector_count: { Self → ℕ };
@@ -37,14 +37,14 @@ pub trait View {
     /// Reads the sector `at`. After `Failed` nothing is said of `into`.
     fn read(&mut self, at: u64, into: &mut Sector) -> Result<(), Failed>
         requires { at < sector_count self.old }
-        ensures read { IsTrue told → OnOk result (slice_get (image self.old) at ≡ Some into.new) }
+        ensures read { IsTrue known → OnOk result (slice_get (image self.old) at ≡ Some into.new) }
         ensures image { image self.new ≡ image self.old }
         ensures sectors { sector_count self.new ≡ sector_count self.old }
         ensures only_read { only_read self.old self.new }
         ensures cause { HasCause result (fault_count self.old) (fault_count self.new) };
 
     /// Each sector is in the image.
-    ghost image_fits: { IsTrue told → (view : Self) → length (image view) ≡ sector_count view };
+    ghost image_fits: { IsTrue known → (view : Self) → length (image view) ≡ sector_count view };
 
     /// A call that reads nothing only reads.
     ghost no_read: { (view : Self) → only_read view view };

@@ -1,4 +1,4 @@
--- A sector of the bitmap tells of the blocks of its part alone.
+-- A sector of the bitmap carries of the blocks of its part alone.
 use Rattle.std.proofs.Common.{◌≡◌, ◌<◌, ◌+◌, ◌-◌, ◌*◌, ◌/◌, ℕ, Bool, List, Some, length, take, drop, get_or, eqb, inl, inr, ap, sym, ◌∙◌, arith}
 use Rattle.std.proofs.lemmas.Bool.{cases_lt, cond-false, cond-true, ne_eqb, and_from, le-leb, lt-ltb}
 use Rattle.std.proofs.lemmas.List.{get_or-drop, get_or-take, get_or_past, length-drop, length-take, same_lists}
@@ -11,7 +11,7 @@ use Rattle.life_table.specs.Space.{is_free_block}
 use Rattle.sound_image.specs.Places.{part}
 use Rattle.sound_image.specs.Rules.{free_set}
 use Rattle.sound_image.specs.Encoding.{Layouts, metadata}
-use Rattle.encoded_changes.specs.Tell.{Stays}
+use Rattle.encoded_changes.specs.Carry.{Stays}
 use Rattle.encoded_changes.proofs.Places.{by_tests, is_bitmap}
 
 -- lists that are the same at some places

@@ -9,7 +9,7 @@ use Rattle.agi_buckets.specs.Buckets.{without}
 use Rattle.life_table.specs.Table.{Group, inode_in}
 use Rattle.life_table.specs.Space.{times}
 use Rattle.sound_image.specs.Encoding.{Layouts, head_of, next_in, list_of, page_of, header_for}
-use Rattle.encoded_changes.specs.Tell.{Stays}
+use Rattle.encoded_changes.specs.Carry.{Stays}
 use Rattle.encoded_changes.specs.Changes.{PutsFirst, TakesOut}
 use Rattle.encoded_changes.proofs.Places.{header_made, inode_by, page_by, same_metadata}
 

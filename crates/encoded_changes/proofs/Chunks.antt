@@ -9,7 +9,7 @@ use Rattle.life_table.specs.declared.table.Chunk.{Chunk}
 use Rattle.life_table.specs.Table.{Group, inode_in, start_of}
 use Rattle.life_table.specs.Space.{insert_chunk}
 use Rattle.sound_image.specs.Encoding.{Layouts, inode_sector, page_place}
-use Rattle.encoded_changes.specs.Tell.{Stays}
+use Rattle.encoded_changes.specs.Carry.{Stays}
 use Rattle.encoded_changes.specs.Changes.{IsOfBitmap, IsOfChunk, IsOfPage}
 use Rattle.encoded_changes.proofs.Places.{same_metadata}
 use Rattle.encoded_changes.proofs.Groups.{of_bitmap, of_page}

@@ -15,7 +15,7 @@ use Rattle.life_table.specs.Table.{Group, inode_in, set_inode, start_of}
 use Rattle.life_table.specs.Space.{times, chunk_blocks, row_blocks, inode_blocks, used}
 use Rattle.sound_image.specs.Places.{part}
 use Rattle.sound_image.specs.Encoding.{Layouts, inode_sector, page_place, free_count, mask_of, record_of}
-use Rattle.encoded_changes.specs.Tell.{Stays}
+use Rattle.encoded_changes.specs.Carry.{Stays}
 use Rattle.encoded_changes.specs.Changes.{HaveSameBlocks, IsOfBitmap, IsOfPage}
 use Rattle.encoded_changes.proofs.Places.{same_metadata}
 use Rattle.encoded_changes.proofs.Groups.{same_header, same_page, same_free, of_bitmap, of_page}

@@ -12,7 +12,7 @@ use Rattle.life_table.specs.declared.table.Table.{Table}
 use Rattle.life_table.specs.Table.{Group, group_of, inode_in, set_inode}
 use Rattle.sound_image.specs.Places.{header_place, sector_in}
 use Rattle.sound_image.specs.Encoding.{Layouts, CanEncode, head_of, header_for, inode_sector, is_unlinked, list_of, next_in, page_of}
-use Rattle.encoded_changes.specs.Tell.{IsOfGroup, TellGroup, image_at}
+use Rattle.encoded_changes.specs.Carry.{IsOfGroup, CarryGroup, image_at}
 use Rattle.encoded_changes.specs.Changes.{HaveSameBlocks, PutsFirst, TakesOut}
 use Rattle.encoded_changes.proofs.Inodes.{inode_in-set_other, inode_in-set_same, inode_touches}
 use Rattle.encoded_changes.proofs.Rows.{row_put, row_taken}
@@ -34,10 +34,10 @@ of_inode g t layouts others image group agino old new can lt at page =
       bytes = at_inode g others group (set_inode (group_of t group) agino new) agino new last place.0 (inode_in-set_same (group_of t group) agino old new at);
     }
 
-pub told_alone : (g : Geometry) (t : Table) (layouts : Layouts) (image : List Sector) (group agino : ℕ) (old new : Inode) → CanEncode g t layouts image → group < g.groups
+pub carried_alone : (g : Geometry) (t : Table) (layouts : Layouts) (image : List Sector) (group agino : ℕ) (old new : Inode) → CanEncode g t layouts image → group < g.groups
     → inode_in (group_of t group) agino ≡ Some old → is_none new.row ≡ is_none old.row → HaveSameBlocks old new
-    → TellGroup g group layouts (group_of t group) layouts (set_inode (group_of t group) agino new) (image_at g group agino (inode_sector g layouts group agino new) ∷ [])
-told_alone g t layouts image group agino old new can lt at same blocks =
+    → CarryGroup g group layouts (group_of t group) layouts (set_inode (group_of t group) agino new) (image_at g group agino (inode_sector g layouts group agino new) ∷ [])
+carried_alone g t layouts image group agino old new can lt at same blocks =
     let next : Group = set_inode (group_of t group) agino new in
     record {
       right = All-from_recursion (IsOfGroup g layouts group next) (image_at g group agino (inode_sector g layouts group agino new) ∷ [])
@@ -48,11 +48,11 @@ told_alone g t layouts image group agino old new can lt at same blocks =
       ];
     }
 
-pub told_put : (g : Geometry) (t : Table) (layouts others : Layouts) (image : List Sector) (group agino : ℕ) (old new : Inode) → CanEncode g t layouts image → group < g.groups
+pub carried_put : (g : Geometry) (t : Table) (layouts others : Layouts) (image : List Sector) (group agino : ℕ) (old new : Inode) → CanEncode g t layouts image → group < g.groups
     → inode_in (group_of t group) agino ≡ Some old → is_none new.row ≡ is_none old.row → HaveSameBlocks old new → PutsFirst layouts others group agino
-    → TellGroup g group layouts (group_of t group) others (set_inode (group_of t group) agino new)
+    → CarryGroup g group layouts (group_of t group) others (set_inode (group_of t group) agino new)
     (image_at g group header_place (header_encoding (header_for g group (set_inode (group_of t group) agino new) others)) ∷ image_at g group agino (inode_sector g others group agino new) ∷ [])
-told_put g t layouts others image group agino old new can lt at same blocks puts =
+carried_put g t layouts others image group agino old new can lt at same blocks puts =
     let next : Group = set_inode (group_of t group) agino new in
     let spot = has_place g t layouts image group agino old can lt at in
     let header : IsOfGroup g others group next (image_at g group header_place (header_encoding (header_for g group next others))) =
@@ -90,12 +90,12 @@ no_mark g t layouts image group agino inode can lt at e =
     let most = can.table.most in
     omega (arith, place.1, can.blocks, most, e)
 
-pub told_first : (g : Geometry) (t : Table) (layouts others : Layouts) (image : List Sector) (group agino : ℕ) (old new : Inode) → CanEncode g t layouts image → group < g.groups
+pub carried_first : (g : Geometry) (t : Table) (layouts others : Layouts) (image : List Sector) (group agino : ℕ) (old new : Inode) → CanEncode g t layouts image → group < g.groups
     → inode_in (group_of t group) agino ≡ Some old → is_none new.row ≡ is_none old.row → HaveSameBlocks old new → TakesOut layouts others group agino
     → head_of (list_of layouts group (agino % BUCKETS)) ≡ agino
-    → TellGroup g group layouts (group_of t group) others (set_inode (group_of t group) agino new)
+    → CarryGroup g group layouts (group_of t group) others (set_inode (group_of t group) agino new)
     (image_at g group header_place (header_encoding (header_for g group (set_inode (group_of t group) agino new) others)) ∷ image_at g group agino (inode_sector g others group agino new) ∷ [])
-told_first g t layouts others image group agino old new can lt at same blocks out first =
+carried_first g t layouts others image group agino old new can lt at same blocks out first =
     let next : Group = set_inode (group_of t group) agino new in
     let members : List ℕ = list_of layouts group (agino % BUCKETS) in
     let spot = has_place g t layouts image group agino old can lt at in
@@ -115,12 +115,12 @@ told_first g t layouts others image group agino old new can lt at same blocks ou
       ];
     }
 
-pub told_later : (g : Geometry) (t : Table) (layouts others : Layouts) (image : List Sector) (group agino before : ℕ) (old new other : Inode) → CanEncode g t layouts image → group < g.groups
+pub carried_later : (g : Geometry) (t : Table) (layouts others : Layouts) (image : List Sector) (group agino before : ℕ) (old new other : Inode) → CanEncode g t layouts image → group < g.groups
     → inode_in (group_of t group) agino ≡ Some old → is_none new.row ≡ is_none old.row → HaveSameBlocks old new → TakesOut layouts others group agino
     → inode_in (group_of t group) before ≡ Some other → next_in (list_of layouts group (agino % BUCKETS)) before ≡ agino
-    → TellGroup g group layouts (group_of t group) others (set_inode (group_of t group) agino new)
+    → CarryGroup g group layouts (group_of t group) others (set_inode (group_of t group) agino new)
     (image_at g group before (inode_sector g others group before other) ∷ image_at g group agino (inode_sector g others group agino new) ∷ [])
-told_later g t layouts others image group agino before old new other can lt at same blocks out there points =
+carried_later g t layouts others image group agino before old new other can lt at same blocks out there points =
     let next : Group = set_inode (group_of t group) agino new in
     let members : List ℕ = list_of layouts group (agino % BUCKETS) in
     let once = stands_once g t layouts image group agino can lt in

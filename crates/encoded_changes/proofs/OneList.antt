@@ -13,20 +13,20 @@ use Rattle.life_table.specs.declared.table.Table.{Table}
 use Rattle.life_table.specs.Table.{Group, group_of, with_group}
 use Rattle.sound_image.specs.Places.{sector_in}
 use Rattle.sound_image.specs.Encoding.{Layouts, CanEncode, layout_of, metadata, encoded}
-use Rattle.encoded_changes.specs.Tell.{homes, AreImagesOf, IsOfGroup, TellGroup}
-use Rattle.encoded_changes.proofs.Overlaid.{of_one_group, sector_of, told}
+use Rattle.encoded_changes.specs.Carry.{homes, AreImagesOf, IsOfGroup, CarryGroup}
+use Rattle.encoded_changes.proofs.Overlaid.{of_one_group, sector_of, carried}
 use Rattle.encoded_changes.proofs.Rows.{changes_only, own_group}
 
-pub told_in_group : (g : Geometry) (t : Table) (layouts others : Layouts) (image : List Sector) (group : ℕ) (next : Group) (images : List Image)
+pub carried_in_group : (g : Geometry) (t : Table) (layouts others : Layouts) (image : List Sector) (group : ℕ) (next : Group) (images : List Image)
     → CanEncode g t layouts image → group < g.groups → ((other : ℕ) → other ≢ group → layout_of others other ≡ layout_of layouts other)
-    → TellGroup g group layouts (group_of t group) others next images
+    → CarryGroup g group layouts (group_of t group) others next images
     → overlaid (encoded g t layouts image) images ≡ encoded g (with_group t group next) others image
-told_in_group g t layouts others image group next images can lt same tell =
+carried_in_group g t layouts others image group next images can lt same carry =
     let u : Table = with_group t group next in
     let own : group_of u group ≡ next = own_group t group next (omega (arith, lt, can.groups)) in
-    told g t u layouts others image images can.size
+    carried g t u layouts others image images can.size
     (of_one_group g t u layouts others group images lt (changes_only t layouts others group next same)
-    (subst (λ (cs : Group). TellGroup g group layouts (group_of t group) others cs images) (sym own) tell))
+    (subst (λ (cs : Group). CarryGroup g group layouts (group_of t group) others cs images) (sym own) carry))
 
 -- ---- ascending lists with the same members
 
@@ -100,10 +100,10 @@ has_too : (g : Geometry) (group : ℕ) (layouts others : Layouts) (chunks next :
     → AreImagesOf g group layouts chunks others next first → AreImagesOf g group layouts chunks others next second
     → (home : ℕ) → In home (homes first) → In home (homes second)
 has_too g group layouts others chunks next first second a b home has =
-    let found = image_at (IsOfGroup g others group next) first home (recursion_from_All (IsOfGroup g others group next) first a.tell.right) has in
+    let found = image_at (IsOfGroup g others group next) first home (recursion_from_All (IsOfGroup g others group next) first a.carry.right) has in
     let at : sector_in g group found.1.place ≡ home = sym found.1.home ∙ found.2 in
     let low = found.1.within in
-    elim (b.tell.whole found.1.place low) [
+    elim (b.carry.whole found.1.place low) [
       | inl stays ↦ absurd (a.differ found.1.place low (subst (Contains (homes first)) (sym at) (contains_from home (homes first) has)) stays)
       | inr there ↦ in_from home (homes second) (subst (Contains (homes second)) at there)
     ]
@@ -141,8 +141,8 @@ pub one_list : (g : Geometry) (group : ℕ) (layouts others : Layouts) (chunks n
     → AreImagesOf g group layouts chunks others next first → AreImagesOf g group layouts chunks others next second → first ≡ second
 one_list g group layouts others chunks next first second a b =
     same_images g others group next first second
-    (recursion_from_All (IsOfGroup g others group next) first a.tell.right)
-    (recursion_from_All (IsOfGroup g others group next) second b.tell.right)
+    (recursion_from_All (IsOfGroup g others group next) first a.carry.right)
+    (recursion_from_All (IsOfGroup g others group next) second b.carry.right)
     (same_members (homes first) (homes second) (up_from (homes first) a.ascend) (up_from (homes second) b.ascend)
     (has_too g group layouts others chunks next first second a b)
     (has_too g group layouts others chunks next second first b a))

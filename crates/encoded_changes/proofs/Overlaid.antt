@@ -1,4 +1,4 @@
--- Images that tell a change, put over an image that encodes a table.
+-- Images that carry a change, put over an image that encodes a table.
 use Rattle.std.proofs.Common.{◌≡◌, ◌<◌, ◌≤◌, ◌+◌, ◌*◌, ◌/◌, ◌%◌, ◌⊎◌, ℕ, zero, suc, cond, List, [], ◌∷◌, Option, None, Some, length, get_or, eqb, ltb, inl, inr, refl, ap, sym, subst, ◌∙◌, arith}
 use Rattle.std.specs.Prelude.{unwrap_or, Contains}
 use Rattle.std.specs.List.{AllByRecursion}
@@ -20,7 +20,7 @@ use Rattle.life_table.specs.declared.table.Table.{Table}
 use Rattle.life_table.specs.Table.{group_of}
 use Rattle.sound_image.specs.Places.{bytes_at, sector_in}
 use Rattle.sound_image.specs.Encoding.{Layouts, metadata, encoded, encoded_bytes}
-use Rattle.encoded_changes.specs.Tell.{homes, ChangesOnly, IsOfGroup, IsOfTable, Stays, Tell, TellGroup}
+use Rattle.encoded_changes.specs.Carry.{homes, ChangesOnly, IsOfGroup, IsOfTable, Stays, Carry, CarryGroup}
 use Rattle.encoded_changes.proofs.Places.{elsewhere}
 
 -- ---- the sectors of an image that encodes a table
@@ -93,19 +93,19 @@ newest-has home (image ∷ images) (suc k, lt, at) e =
 -- ---- the sectors after the change
 
 -- one that an image has
-told_here : (g : Geometry) (u : Table) (others : Layouts) (image : List Sector) (home : ℕ) (sector : Sector) → IsOfTable g others u (record { home = home; sector = sector })
+carried_here : (g : Geometry) (u : Table) (others : Layouts) (image : List Sector) (home : ℕ) (sector : Sector) → IsOfTable g others u (record { home = home; sector = sector })
     → encoded_bytes g u others image home ≡ sector.bytes
-told_here g u others image home sector (group, lt, is) =
+carried_here g u others image home sector (group, lt, is) =
     ap (encoded_bytes g u others image) is.home
     ∙ in_group g u others image group is.place lt is.within
     ∙ ap (λ (o : Option (List ℕ)). unwrap_or o (bytes_at image (sector_in g group is.place))) is.bytes
 
 -- one in the groups that none has
-stays_here : (g : Geometry) (t u : Table) (layouts others : Layouts) (image : List Sector) (images : List Image) (group place : ℕ) → Tell g t layouts u others images
+stays_here : (g : Geometry) (t u : Table) (layouts others : Layouts) (image : List Sector) (images : List Image) (group place : ℕ) → Carry g t layouts u others images
     → group < g.groups → place < group_sectors g → newest (sector_in g group place) images ≡ None
     → encoded_bytes g t layouts image (sector_in g group place) ≡ encoded_bytes g u others image (sector_in g group place)
-stays_here g t u layouts others image images group place tell lt low none =
-    elim (tell.whole group place lt low) [
+stays_here g t u layouts others image images group place carry lt low none =
+    elim (carry.whole group place lt low) [
       | inl same ↦
           in_group g t layouts image group place lt low
           ∙ ap (λ (o : Option (List ℕ)). unwrap_or o (bytes_at image (sector_in g group place))) (sym same)
@@ -125,29 +125,29 @@ split g s lt = split_number g.groups (group_sectors g) s lt
         let low : s % suc k < suc k = mod-lt s (omega arith) in
         ((div-lt_iff_lt-mul (omega arith)).1 lt, low, omega (arith, whole))
 
-unmet : (g : Geometry) (t u : Table) (layouts others : Layouts) (image : List Sector) (images : List Image) (s : ℕ) → Tell g t layouts u others images
+unmet : (g : Geometry) (t u : Table) (layouts others : Layouts) (image : List Sector) (images : List Image) (s : ℕ) → Carry g t layouts u others images
     → newest s images ≡ None → encoded_bytes g t layouts image s ≡ encoded_bytes g u others image s
-unmet g t u layouts others image images s tell none =
+unmet g t u layouts others image images s carry none =
     elim (cases_lt s (g.groups * group_sectors g)) [
       | inl lt ↦
           let at = split g s lt in
           subst (λ (x : ℕ). encoded_bytes g t layouts image x ≡ encoded_bytes g u others image x) at.2
-          (stays_here g t u layouts others image images (s / group_sectors g) (s % group_sectors g) tell at.0 at.1 (ap (λ (x : ℕ). newest x images) at.2 ∙ none))
+          (stays_here g t u layouts others image images (s / group_sectors g) (s % group_sectors g) carry at.0 at.1 (ap (λ (x : ℕ). newest x images) at.2 ∙ none))
       | inr past ↦ behind g t layouts image s past ∙ sym (behind g u others image s past)
     ]
 
-each_sector : (g : Geometry) (t u : Table) (layouts others : Layouts) (image : List Sector) (images : List Image) (s : ℕ) → Tell g t layouts u others images
+each_sector : (g : Geometry) (t u : Table) (layouts others : Layouts) (image : List Sector) (images : List Image) (s : ℕ) → Carry g t layouts u others images
     → unwrap_or (newest s images) (sector_of (encoded_bytes g t layouts image s)) ≡ sector_of (encoded_bytes g u others image s)
-each_sector g t u layouts others image images s tell =
+each_sector g t u layouts others image images s carry =
     elim (newest s images) as (λ (o : Option Sector). newest s images ≡ o → unwrap_or o (sector_of (encoded_bytes g t layouts image s)) ≡ sector_of (encoded_bytes g u others image s)) [
-      | None ↦ λ is. ap sector_of (unmet g t u layouts others image images s tell is)
-      | Some sector ↦ λ is. ap sector_of (sym (told_here g u others image s sector
-          (newest-is (IsOfTable g others u) s images sector (recursion_from_All (IsOfTable g others u) images tell.right) is)))
+      | None ↦ λ is. ap sector_of (unmet g t u layouts others image images s carry is)
+      | Some sector ↦ λ is. ap sector_of (sym (carried_here g u others image s sector
+          (newest-is (IsOfTable g others u) s images sector (recursion_from_All (IsOfTable g others u) images carry.right) is)))
     ] refl
 
-pub told : (g : Geometry) (t u : Table) (layouts others : Layouts) (image : List Sector) (images : List Image) → g.groups * group_sectors g ≤ length image → Tell g t layouts u others images
+pub carried : (g : Geometry) (t u : Table) (layouts others : Layouts) (image : List Sector) (images : List Image) → g.groups * group_sectors g ≤ length image → Carry g t layouts u others images
     → overlaid (encoded g t layouts image) images ≡ encoded g u others image
-told g t u layouts others image images size tell =
+carried g t u layouts others image images size carry =
     let old : List Sector = encoded g t layouts image in
     let new : List Sector = encoded g u others image in
     let before = length-encoded g t layouts image in
@@ -158,16 +158,16 @@ told g t u layouts others image images size tell =
     let within : s < length image = omega (arith, before, long) in
     get_or-overlaid old images s d (omega (arith, before))
     ∙ ap (λ (x : Sector). unwrap_or (newest s images) x) (at_encoded g t layouts image s d within)
-    ∙ each_sector g t u layouts others image images s tell
+    ∙ each_sector g t u layouts others image images s carry
     ∙ sym (at_encoded g u others image s d within))
 
 pub of_one_group : (g : Geometry) (t u : Table) (layouts others : Layouts) (group : ℕ) (images : List Image) → group < g.groups → ChangesOnly group t layouts u others
-    → TellGroup g group layouts (group_of t group) others (group_of u group) images → Tell g t layouts u others images
-of_one_group g t u layouts others group images lt only tell =
+    → CarryGroup g group layouts (group_of t group) others (group_of u group) images → Carry g t layouts u others images
+of_one_group g t u layouts others group images lt only carry =
     record {
-      right = All-weaker (IsOfGroup g others group (group_of u group)) (IsOfTable g others u) (λ image is. (group, lt, is)) images tell.right;
+      right = All-weaker (IsOfGroup g others group (group_of u group)) (IsOfTable g others u) (λ image is. (group, lt, is)) images carry.right;
       whole = λ other place below low. elim (cases_eq other group) [
-        | inl same ↦ subst (λ (x : ℕ). Stays g x layouts (group_of t x) others (group_of u x) place ⊎ Contains (homes images) (sector_in g x place)) (sym same) (tell.whole place low)
+        | inl same ↦ subst (λ (x : ℕ). Stays g x layouts (group_of t x) others (group_of u x) place ⊎ Contains (homes images) (sector_in g x place)) (sym same) (carry.whole place low)
         | inr apart ↦ inl (elsewhere g layouts others other (group_of t other) (group_of u other) place (only.layouts_of other apart) (only.chunks other apart))
       ];
     }

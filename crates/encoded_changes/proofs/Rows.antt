@@ -12,7 +12,7 @@ use Rattle.life_table.specs.Table.{Group, group_of, inode_in, set_inode, with_gr
 use Rattle.life_table.specs.WellFormed.{IsTable}
 use Rattle.sound_image.specs.Places.{header_place}
 use Rattle.sound_image.specs.Encoding.{Layout, Layouts, AreLayouts, CanEncode, head_of, layout_of, list_of, next_in, page_of}
-use Rattle.encoded_changes.specs.Tell.{ChangesOnly, Stays}
+use Rattle.encoded_changes.specs.Carry.{ChangesOnly, Stays}
 use Rattle.encoded_changes.specs.Changes.{HaveSameBlocks, IsOfBitmap, IsOfPage, PutsFirst, TakesOut, put_in, taken_from, with_buckets}
 use Rattle.encoded_changes.proofs.Inodes.{inode_touches}
 use Rattle.encoded_changes.proofs.Buckets.{put_touches, taken_touches}

@@ -18,11 +18,11 @@ use Rattle.life_table.specs.Space.{prepared}
 use Rattle.life_table.specs.Legal.{prepare}
 use Rattle.life_table.specs.WellFormed.{IsTable}
 use Rattle.sound_image.specs.Encoding.{Layouts, AreLayouts, CanEncode, is_unlinked_row, layout_of, encoded}
-use Rattle.encoded_changes.specs.Tell.{TellGroup}
+use Rattle.encoded_changes.specs.Carry.{CarryGroup}
 use Rattle.encoded_changes.specs.Changes.{FollowInode, Relists}
 use Rattle.encoded_changes.proofs.Rows.{own_group}
 use Rattle.encoded_changes.proofs.Prepared.{layouts_prepared}
-use Rattle.encoded_changes.proofs.OneList.{told_in_group}
+use Rattle.encoded_changes.proofs.OneList.{carried_in_group}
 use Rattle.encoded_changes.proofs.Follow.{layouts_same, layouts_put, layouts_taken}
 
 -- the inode of a row
@@ -120,15 +120,15 @@ inode_made g t layouts others image group number old new can lt at table follow 
     follows g t (prepare t group) layouts others image number old new can (length-set t.groups group (prepared t.blocks group (group_of t group))) refl
     (layouts_prepared t layouts group can.layouts_of (omega (arith, lt, can.groups))) at table follow
 
-pub inode_told : (g : Geometry) (t : Table) (layouts others : Layouts) (image : List Sector) (number : ℕ) (old new : Inode) (images : List Image) → CanEncode g t layouts image
+pub inode_carried : (g : Geometry) (t : Table) (layouts others : Layouts) (image : List Sector) (number : ℕ) (old new : Inode) (images : List Image) → CanEncode g t layouts image
     → inode_of t number ≡ Some old → FollowInode layouts number old new others
-    → TellGroup g (number / GROUP_NUMBERS) layouts (group_of t (number / GROUP_NUMBERS)) others (set_inode (group_of t (number / GROUP_NUMBERS)) (number % GROUP_NUMBERS) new) images
+    → CarryGroup g (number / GROUP_NUMBERS) layouts (group_of t (number / GROUP_NUMBERS)) others (set_inode (group_of t (number / GROUP_NUMBERS)) (number % GROUP_NUMBERS) new) images
     → overlaid (encoded g t layouts image) images ≡ encoded g (with_inode t number new) others image
-inode_told g t layouts others image number old new images can at follow tell =
+inode_carried g t layouts others image number old new images can at follow carry =
     let group : ℕ = number / GROUP_NUMBERS in
     let low : group < g.groups = omega (arith, has_group t number old at, can.groups) in
-    told_in_group g t layouts others image group (set_inode (group_of t group) (number % GROUP_NUMBERS) new) images can low
-    (other_layouts layouts others group (number % GROUP_NUMBERS) (is_unlinked_row old.row) (is_unlinked_row new.row) follow) tell
+    carried_in_group g t layouts others image group (set_inode (group_of t group) (number % GROUP_NUMBERS) new) images can low
+    (other_layouts layouts others group (number % GROUP_NUMBERS) (is_unlinked_row old.row) (is_unlinked_row new.row) follow) carry
     ∙ ap (λ (u : Table). encoded g u others image) (sym (with_is t number new))
 
 -- a group that is replaced twice
@@ -154,14 +154,14 @@ made_is t group number new lt in_it =
     ∙ ap (λ (cs : Group). with_group (prepare t group) group (set_inode cs agino new)) (own_group t group ready lt)
     ∙ twice t group ready (set_inode ready agino new)
 
-pub made_told : (g : Geometry) (t : Table) (layouts others : Layouts) (image : List Sector) (group number : ℕ) (old new : Inode) (images : List Image) → CanEncode g t layouts image
+pub made_carried : (g : Geometry) (t : Table) (layouts others : Layouts) (image : List Sector) (group number : ℕ) (old new : Inode) (images : List Image) → CanEncode g t layouts image
     → group < g.groups → number / GROUP_NUMBERS ≡ group → FollowInode layouts number old new others
-    → TellGroup g group layouts (group_of t group) others (set_inode (prepared t.blocks group (group_of t group)) (number % GROUP_NUMBERS) new) images
+    → CarryGroup g group layouts (group_of t group) others (set_inode (prepared t.blocks group (group_of t group)) (number % GROUP_NUMBERS) new) images
     → overlaid (encoded g t layouts image) images ≡ encoded g (with_inode (prepare t group) number new) others image
-made_told g t layouts others image group number old new images can lt in_it follow tell =
+made_carried g t layouts others image group number old new images can lt in_it follow carry =
     let next : Group = set_inode (prepared t.blocks group (group_of t group)) (number % GROUP_NUMBERS) new in
     let here : Relists layouts group (number % GROUP_NUMBERS) (is_unlinked_row old.row) (is_unlinked_row new.row) others =
     subst (λ (n : ℕ). Relists layouts n (number % GROUP_NUMBERS) (is_unlinked_row old.row) (is_unlinked_row new.row) others) in_it follow in
-    told_in_group g t layouts others image group next images can lt
-    (other_layouts layouts others group (number % GROUP_NUMBERS) (is_unlinked_row old.row) (is_unlinked_row new.row) here) tell
+    carried_in_group g t layouts others image group next images can lt
+    (other_layouts layouts others group (number % GROUP_NUMBERS) (is_unlinked_row old.row) (is_unlinked_row new.row) here) carry
     ∙ ap (λ (u : Table). encoded g u others image) (sym (made_is t group number new (omega (arith, lt, can.groups)) in_it))

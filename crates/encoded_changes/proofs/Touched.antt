@@ -13,7 +13,7 @@ use Rattle.life_table.specs.Legal.{IsNextKey}
 use Rattle.life_table.specs.WellFormed.{IsTable}
 use Rattle.sound_image.specs.Places.{header_place}
 use Rattle.sound_image.specs.Encoding.{Layouts, is_unlinked_row}
-use Rattle.encoded_changes.specs.Tell.{Stays}
+use Rattle.encoded_changes.specs.Carry.{Stays}
 use Rattle.encoded_changes.specs.Changes.{HaveSameBlocks, IsOfBitmap, IsOfChunk, IsOfNoNewChunk, IsOfPage, Relists, unused_inode}
 use Rattle.encoded_changes.proofs.Chunks.{chunk_touches}
 use Rattle.encoded_changes.proofs.Inodes.{inode_touches}

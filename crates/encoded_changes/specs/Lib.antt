@@ -1,2 +1,2 @@
-pub mod Tell
+pub mod Carry
 pub mod Changes

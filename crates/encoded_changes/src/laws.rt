@@ -21,21 +21,21 @@ ghost use Rattle.sound_image.specs.Encoding.{Layouts, AreLayouts, CanEncode, hea
 ghost use Rattle.sound_image.specs.Rules.{free_set};
 ghost use Rattle.ag_header.specs.Headers.{encoding as header_encoding};
 ghost use Rattle.free_map.specs.Bitmap.{bitmap};
-ghost use Rattle.encoded_changes.specs.Tell.{AreImagesOf, ChangesOnly, Stays, Tell, TellGroup, image_at};
+ghost use Rattle.encoded_changes.specs.Carry.{AreImagesOf, ChangesOnly, Stays, Carry, CarryGroup, image_at};
 ghost use Rattle.encoded_changes.specs.Changes.{FollowInode, HaveSameBlocks, IsOfBitmap, IsOfChunk, IsOfNoNewChunk, IsOfPage, PutsFirst, Relists, TakesOut, put_in, taken_from, unused_inode};
 
-/// A law: images that tell a change, put over what encodes the table before it, give what encodes the table after it. Where one group alone has changed,
-/// images that tell how that group changes are such. The images of a change, those of the sectors that it changes alone, are one list.
-pub fn images_tell_changes()
+/// A law: images that carry a change, put over what encodes the table before it, give what encodes the table after it. Where one group alone has changed,
+/// images that carry how that group changes are such. The images of a change, those of the sectors that it changes alone, are one list.
+pub fn images_carry_changes()
     ensures encoded { (g : Geometry) (t u : Table) (layouts others : Layouts) (image : List Sector) (images : List Image)
-        → g.groups * group_sectors g ≤ length image → Tell g t layouts u others images
+        → g.groups * group_sectors g ≤ length image → Carry g t layouts u others images
         → overlaid (encoded g t layouts image) images ≡ encoded g u others image }
     ensures one_group { (g : Geometry) (t u : Table) (layouts others : Layouts) (group : ℕ) (images : List Image)
         → group < g.groups → ChangesOnly group t layouts u others
-        → TellGroup g group layouts (group_of t group) others (group_of u group) images → Tell g t layouts u others images }
+        → CarryGroup g group layouts (group_of t group) others (group_of u group) images → Carry g t layouts u others images }
     ensures in_group { (g : Geometry) (t : Table) (layouts others : Layouts) (image : List Sector) (group : ℕ) (next : Group) (images : List Image)
         → CanEncode g t layouts image → group < g.groups → ((other : ℕ) → other ≢ group → layout_of others other ≡ layout_of layouts other)
-        → TellGroup g group layouts (group_of t group) others next images
+        → CarryGroup g group layouts (group_of t group) others next images
         → overlaid (encoded g t layouts image) images ≡ encoded g (with_group t group next) others image }
     ensures one_list { (g : Geometry) (group : ℕ) (layouts others : Layouts) (chunks next : Group) (first second : List Image)
         → AreImagesOf g group layouts chunks others next first → AreImagesOf g group layouts chunks others next second → first ≡ second }
@@ -121,24 +121,24 @@ pub fn layouts_follow_the_table()
         → AreLayouts (with_group t group (insert_chunk (new_chunk block) (group_of t group))) layouts }
 {}
 
-/// A law: another inode at a number of the image, with its list as it follows, leaves what the image can encode; and images that tell the change of its group
+/// A law: another inode at a number of the image, with its list as it follows, leaves what the image can encode; and images that carry the change of its group
 /// give what encodes the next table. So it is after each change but a create, and after a create where its group was prepared first, which leaves the layouts.
 pub fn encodings_follow_the_table()
     ensures row { (t : Table) (key : Key) (row : Row) → row_of t key ≡ Some row → inode_of t key.number ≡ Some (in_use key row) }
     ensures inode { (g : Geometry) (t : Table) (layouts others : Layouts) (image : List Sector) (number : ℕ) (old new : Inode) → CanEncode g t layouts image
         → inode_of t number ≡ Some old → IsTable (with_inode t number new) → FollowInode layouts number old new others
         → CanEncode g (with_inode t number new) others image }
-    ensures told { (g : Geometry) (t : Table) (layouts others : Layouts) (image : List Sector) (number : ℕ) (old new : Inode) (images : List Image) → CanEncode g t layouts image
+    ensures carried { (g : Geometry) (t : Table) (layouts others : Layouts) (image : List Sector) (number : ℕ) (old new : Inode) (images : List Image) → CanEncode g t layouts image
         → inode_of t number ≡ Some old → FollowInode layouts number old new others
-        → TellGroup g (number / GROUP_NUMBERS) layouts (group_of t (number / GROUP_NUMBERS)) others (set_inode (group_of t (number / GROUP_NUMBERS)) (number % GROUP_NUMBERS) new) images
+        → CarryGroup g (number / GROUP_NUMBERS) layouts (group_of t (number / GROUP_NUMBERS)) others (set_inode (group_of t (number / GROUP_NUMBERS)) (number % GROUP_NUMBERS) new) images
         → overlaid (encoded g t layouts image) images ≡ encoded g (with_inode t number new) others image }
     ensures prepared { (t : Table) (layouts : Layouts) (group : ℕ) → AreLayouts t layouts → group < length t.groups → AreLayouts (prepare t group) layouts }
     ensures made { (g : Geometry) (t : Table) (layouts others : Layouts) (image : List Sector) (group number : ℕ) (old new : Inode) → CanEncode g t layouts image → group < g.groups
         → inode_of (prepare t group) number ≡ Some old → IsTable (with_inode (prepare t group) number new) → FollowInode layouts number old new others
         → CanEncode g (with_inode (prepare t group) number new) others image }
-    ensures made_told { (g : Geometry) (t : Table) (layouts others : Layouts) (image : List Sector) (group number : ℕ) (old new : Inode) (images : List Image) → CanEncode g t layouts image
+    ensures made_carried { (g : Geometry) (t : Table) (layouts others : Layouts) (image : List Sector) (group number : ℕ) (old new : Inode) (images : List Image) → CanEncode g t layouts image
         → group < g.groups → number / GROUP_NUMBERS ≡ group → FollowInode layouts number old new others
-        → TellGroup g group layouts (group_of t group) others (set_inode (prepared t.blocks group (group_of t group)) (number % GROUP_NUMBERS) new) images
+        → CarryGroup g group layouts (group_of t group) others (set_inode (prepared t.blocks group (group_of t group)) (number % GROUP_NUMBERS) new) images
         → overlaid (encoded g t layouts image) images ≡ encoded g (with_inode (prepare t group) number new) others image }
 {}
 
@@ -176,27 +176,27 @@ pub fn places_have_their_metadata()
         → inode_in (group_of t group) agino ≡ Some inode → (FIRST_DATA_BLOCK * BLOCK_SECTORS ≤ agino) × (agino < group_sectors g) }
 {}
 
-/// A law: where an inode stays in use or out of it, its blocks stay, and its list too, the image of its sector tells the change; where it comes to be without
+/// A law: where an inode stays in use or out of it, its blocks stay, and its list too, the image of its sector carries the change; where it comes to be without
 /// links and is put first in its list, those of the header and of its sector do; where it ceases to be and is taken out, that of its sector and that of what
 /// pointed at it, the header or the inode before it.
-pub fn links_are_told()
+pub fn links_are_carried()
     ensures alone { (g : Geometry) (t : Table) (layouts : Layouts) (image : List Sector) (group agino : ℕ) (old new : Inode) → CanEncode g t layouts image → group < g.groups
         → inode_in (group_of t group) agino ≡ Some old → is_none new.row ≡ is_none old.row → HaveSameBlocks old new
-        → TellGroup g group layouts (group_of t group) layouts (set_inode (group_of t group) agino new) (image_at g group agino (inode_sector g layouts group agino new) ∷ []) }
+        → CarryGroup g group layouts (group_of t group) layouts (set_inode (group_of t group) agino new) (image_at g group agino (inode_sector g layouts group agino new) ∷ []) }
     ensures put { (g : Geometry) (t : Table) (layouts others : Layouts) (image : List Sector) (group agino : ℕ) (old new : Inode) → CanEncode g t layouts image → group < g.groups
         → inode_in (group_of t group) agino ≡ Some old → is_none new.row ≡ is_none old.row → HaveSameBlocks old new → PutsFirst layouts others group agino
-        → TellGroup g group layouts (group_of t group) others (set_inode (group_of t group) agino new)
+        → CarryGroup g group layouts (group_of t group) others (set_inode (group_of t group) agino new)
         (image_at g group header_place (header_encoding (header_for g group (set_inode (group_of t group) agino new) others))
         ∷ image_at g group agino (inode_sector g others group agino new) ∷ []) }
     ensures taken_first { (g : Geometry) (t : Table) (layouts others : Layouts) (image : List Sector) (group agino : ℕ) (old new : Inode) → CanEncode g t layouts image → group < g.groups
         → inode_in (group_of t group) agino ≡ Some old → is_none new.row ≡ is_none old.row → HaveSameBlocks old new → TakesOut layouts others group agino
         → head_of (list_of layouts group (agino % BUCKETS)) ≡ agino
-        → TellGroup g group layouts (group_of t group) others (set_inode (group_of t group) agino new)
+        → CarryGroup g group layouts (group_of t group) others (set_inode (group_of t group) agino new)
         (image_at g group header_place (header_encoding (header_for g group (set_inode (group_of t group) agino new) others))
         ∷ image_at g group agino (inode_sector g others group agino new) ∷ []) }
     ensures taken_later { (g : Geometry) (t : Table) (layouts others : Layouts) (image : List Sector) (group agino before : ℕ) (old new other : Inode) → CanEncode g t layouts image → group < g.groups
         → inode_in (group_of t group) agino ≡ Some old → is_none new.row ≡ is_none old.row → HaveSameBlocks old new → TakesOut layouts others group agino
         → inode_in (group_of t group) before ≡ Some other → next_in (list_of layouts group (agino % BUCKETS)) before ≡ agino
-        → TellGroup g group layouts (group_of t group) others (set_inode (group_of t group) agino new)
+        → CarryGroup g group layouts (group_of t group) others (set_inode (group_of t group) agino new)
         (image_at g group before (inode_sector g others group before other) ∷ image_at g group agino (inode_sector g others group agino new) ∷ []) }
 {}

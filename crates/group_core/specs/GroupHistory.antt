@@ -1,4 +1,4 @@
--- The history of one group, as it is made under the group's lock. Holds are told elsewhere: the group's table has none, and what is done without the lock
+-- The history of one group, as it is made under the group's lock. Holds are kept elsewhere: the group's table has none, and what is done without the lock
 -- has no entry.
 use Rattle.std.specs.Prelude.{◌≡◌, ⊤, ℕ, List, [], ◌∷◌, Option, None, Some, IsSomeAnd}
 use Rattle.std.specs.List.{AllByRecursion}

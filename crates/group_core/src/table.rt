@@ -9,7 +9,7 @@ use log_record::Commit;
 
 /// A change that was computed and is not made yet, with the commit that tells the log of it.
 pub trait Staged {
-    /// What the log is told.
+    /// What the log is given.
     ghost commit: { Self → Commit };
 
     /// Whether the commit was handed out.

@@ -24,28 +24,28 @@ both a b d past mid since P first second = record {
   keeps = λ moment image le left. second.keeps moment image (omega (arith, first.later)) (first.keeps moment image le left);
 }
 
-pub leaves_none : {D : Type 0} (told : Bool) (cells : D → List Cell) (sector_count moment : D → ℕ) (arming : D → Arming) (left : D → ℕ → List Sector → Type 0) (P : List Sector → Type 0)
-    (disk : D) → (IsTrue told → (image : List Sector) → IsImage (cells disk) image → P image) → LeavesOnly told cells sector_count moment arming left P disk disk
-leaves_none told cells sector_count moment arming left P disk has = record {
+pub leaves_none : {D : Type 0} (known : Bool) (cells : D → List Cell) (sector_count moment : D → ℕ) (arming : D → Arming) (left : D → ℕ → List Sector → Type 0) (P : List Sector → Type 0)
+    (disk : D) → (IsTrue known → (image : List Sector) → IsImage (cells disk) image → P image) → LeavesOnly known cells sector_count moment arming left P disk disk
+leaves_none known cells sector_count moment arming left P disk has = record {
   images = has;
   moments = λ tells. record { later = omega arith; nothing_else = λ moment image le left. inl left; keeps = λ moment image le left. left };
   sectors = refl;
   armed = IsAfterWrites-none (arming disk);
 }
 
-pub leaves_both : {D : Type 0} (told : Bool) (cells : D → List Cell) (sector_count moment : D → ℕ) (arming : D → Arming) (left : D → ℕ → List Sector → Type 0) (P : List Sector → Type 0)
-    (a b d : D) → LeavesOnly told cells sector_count moment arming left P a b → LeavesOnly told cells sector_count moment arming left P b d
-    → LeavesOnly told cells sector_count moment arming left P a d
-leaves_both told cells sector_count moment arming left P a b d first second = record {
+pub leaves_both : {D : Type 0} (known : Bool) (cells : D → List Cell) (sector_count moment : D → ℕ) (arming : D → Arming) (left : D → ℕ → List Sector → Type 0) (P : List Sector → Type 0)
+    (a b d : D) → LeavesOnly known cells sector_count moment arming left P a b → LeavesOnly known cells sector_count moment arming left P b d
+    → LeavesOnly known cells sector_count moment arming left P a d
+leaves_both known cells sector_count moment arming left P a b d first second = record {
   images = second.images;
   moments = λ tells. both (moment a) (moment b) (moment d) (left a) (left b) (left d) P (first.moments tells) (second.moments tells);
   sectors = second.sectors ∙ first.sectors;
   armed = IsAfterWrites-both (arming a) (arming b) (arming d) first.armed second.armed;
 }
 
-pub leaves_weaker : {D : Type 0} (told : Bool) (cells : D → List Cell) (sector_count moment : D → ℕ) (arming : D → Arming) (left : D → ℕ → List Sector → Type 0) (P Q : List Sector → Type 0)
-    (a b : D) → ((image : List Sector) → P image → Q image) → LeavesOnly told cells sector_count moment arming left P a b → LeavesOnly told cells sector_count moment arming left Q a b
-leaves_weaker told cells sector_count moment arming left P Q a b has first = record {
+pub leaves_weaker : {D : Type 0} (known : Bool) (cells : D → List Cell) (sector_count moment : D → ℕ) (arming : D → Arming) (left : D → ℕ → List Sector → Type 0) (P Q : List Sector → Type 0)
+    (a b : D) → ((image : List Sector) → P image → Q image) → LeavesOnly known cells sector_count moment arming left P a b → LeavesOnly known cells sector_count moment arming left Q a b
+leaves_weaker known cells sector_count moment arming left P Q a b has first = record {
   images = λ tells image is. has image (first.images tells image is);
   moments = λ tells. weaker (moment a) (moment b) (left a) (left b) P Q has (first.moments tells);
   sectors = first.sectors;
@@ -58,15 +58,15 @@ after_attempt (Ok x) at pieces old new image ok err is = subst (λ (c : List Cel
 after_attempt (Err e) at pieces old new image ok err is = IsImage-partly_written at pieces old new image err is
 
 -- a write
-pub leaves_write : {D T E : Type 0} (told : Bool) (cells : D → List Cell) (sector_count moment : D → ℕ) (arming : D → Arming) (left : D → ℕ → List Sector → Type 0) (P : List Sector → Type 0)
+pub leaves_write : {D T E : Type 0} (known : Bool) (cells : D → List Cell) (sector_count moment : D → ℕ) (arming : D → Arming) (left : D → ℕ → List Sector → Type 0) (P : List Sector → Type 0)
     (a b : D) (result : Result T E) (at : ℕ) (pieces : List Sector)
-    → (IsTrue told → OnOk result (cells b ≡ written at pieces (cells a)))
-    → (IsTrue told → OnErr result (IsPartlyWritten at pieces (cells a) (cells b)))
-    → (IsTrue told → Elapses (moment a) (moment b) (left a) (left b) (IsImage (written at pieces (cells a))))
+    → (IsTrue known → OnOk result (cells b ≡ written at pieces (cells a)))
+    → (IsTrue known → OnErr result (IsPartlyWritten at pieces (cells a) (cells b)))
+    → (IsTrue known → Elapses (moment a) (moment b) (left a) (left b) (IsImage (written at pieces (cells a))))
     → sector_count b ≡ sector_count a → arming b ≡ after_write (arming a)
-    → (IsTrue told → (image : List Sector) → IsImage (written at pieces (cells a)) image → P image)
-    → LeavesOnly told cells sector_count moment arming left P a b
-leaves_write told cells sector_count moment arming left P a b result at pieces ok err time sectors armed has = record {
+    → (IsTrue known → (image : List Sector) → IsImage (written at pieces (cells a)) image → P image)
+    → LeavesOnly known cells sector_count moment arming left P a b
+leaves_write known cells sector_count moment arming left P a b result at pieces ok err time sectors armed has = record {
   images = λ tells image is. has tells image (after_attempt result at pieces (cells a) (cells b) image (ok tells) (err tells) is);
   moments = λ tells. weaker (moment a) (moment b) (left a) (left b) (IsImage (written at pieces (cells a))) P (has tells) (time tells);
   sectors = sectors;
@@ -78,15 +78,15 @@ after_flush (Ok x) old new image ok err is = IsImage-before_flush old image (sub
 after_flush (Err e) old new image ok err is = subst (λ (c : List Cell). IsImage c image) err is
 
 -- a flush
-pub leaves_flush : {D T E : Type 0} (told : Bool) (cells : D → List Cell) (sector_count moment : D → ℕ) (arming : D → Arming) (left : D → ℕ → List Sector → Type 0) (P : List Sector → Type 0)
+pub leaves_flush : {D T E : Type 0} (known : Bool) (cells : D → List Cell) (sector_count moment : D → ℕ) (arming : D → Arming) (left : D → ℕ → List Sector → Type 0) (P : List Sector → Type 0)
     (a b : D) (result : Result T E)
-    → (IsTrue told → OnOk result (cells b ≡ flushed (cells a)))
+    → (IsTrue known → OnOk result (cells b ≡ flushed (cells a)))
     → OnErr result (cells b ≡ cells a)
-    → (IsTrue told → Elapses (moment a) (moment b) (left a) (left b) (IsImage (cells a)))
+    → (IsTrue known → Elapses (moment a) (moment b) (left a) (left b) (IsImage (cells a)))
     → sector_count b ≡ sector_count a → arming b ≡ arming a
-    → (IsTrue told → (image : List Sector) → IsImage (cells a) image → P image)
-    → LeavesOnly told cells sector_count moment arming left P a b
-leaves_flush told cells sector_count moment arming left P a b result ok err time sectors armed has = record {
+    → (IsTrue known → (image : List Sector) → IsImage (cells a) image → P image)
+    → LeavesOnly known cells sector_count moment arming left P a b
+leaves_flush known cells sector_count moment arming left P a b result ok err time sectors armed has = record {
   images = λ tells image is. has tells image (after_flush result (cells a) (cells b) image (ok tells) err is);
   moments = λ tells. weaker (moment a) (moment b) (left a) (left b) (IsImage (cells a)) P (has tells) (time tells);
   sectors = sectors;

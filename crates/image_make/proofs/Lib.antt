@@ -2,7 +2,7 @@ mod Parts
 mod Putting
 mod Places
 mod Maps
-mod Told
+mod Finished
 mod Leaving
 mod Sectors
 mod Super

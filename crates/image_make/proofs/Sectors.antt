@@ -14,7 +14,7 @@ use Rattle.geometry.specs.Superblock.{encoding}
 use Rattle.sound_image.specs.Places.{bytes_at, sector_in}
 use Rattle.log_image.specs.Anchor.{anchor_sector}
 use Rattle.whole_image.specs.Front.{anchor_of}
-use Rattle.image_make.specs.Empty.{AreMade, IsTold, IsUntold, empty_sector, sector_at}
+use Rattle.image_make.specs.Empty.{AreMade, IsFinished, AwaitsSuperblock, empty_sector, sector_at}
 use Rattle.image_make.specs.Outcome.{IsBlank, LeavesBlank}
 use Rattle.image_make.proofs.Putting.{with_at, length-with_at, put_inside, put_before, put_behind, all_zero}
 use Rattle.image_make.proofs.Places.{at_none, no_sector}
@@ -124,8 +124,8 @@ in_groups : (g : Geometry) (group place : ℕ) → group < g.groups → place < 
 unfolding sector_in
 in_groups g group place lt low = let room : group * group_sectors g + group_sectors g ≤ g.groups * group_sectors g = up_to group g.groups (group_sectors g) lt in omega arith
 
-pub untold_from : (g : Geometry) (image : List Sector) → AreMade g g.groups image → IsUntold g (with_at (anchor_of g) (anchor_sector g.ring 1 ∷ []) image)
-untold_from g image made =
+pub awaits_from : (g : Geometry) (image : List Sector) → AreMade g g.groups image → AwaitsSuperblock g (with_at (anchor_of g) (anchor_sector g.ring 1 ∷ []) image)
+awaits_from g image made =
     let at : ℕ = anchor_of g in
     let pieces : List Sector = anchor_sector g.ring 1 ∷ [] in
     let fits : at + length pieces ≤ length image = omega (arith, made.size) in
@@ -138,26 +138,26 @@ untold_from g image made =
 
 -- ---- the superblock
 
-pub untold_blank : (g : Geometry) (image : List Sector) → IsGeometry g → IsUntold g image → IsBlank image
+pub awaits_blank : (g : Geometry) (image : List Sector) → IsGeometry g → AwaitsSuperblock g image → IsBlank image
 unfolding bytes_at sector_in
-untold_blank g image shape untold =
+awaits_blank g image shape awaits =
     let least = large g shape in
     let e : 0 * group_sectors g + 0 ≡ 0 = omega arith in
     ap (λ (s : Sector). s.bytes)
-    (ap (sector_at image) (sym e) ∙ untold.groups 0 0 (omega (arith, shape.groups)) (omega arith) ∙ no_sector g 0 0 (at_none g 0 0 (inl (omega arith))))
+    (ap (sector_at image) (sym e) ∙ awaits.groups 0 0 (omega (arith, shape.groups)) (omega arith) ∙ no_sector g 0 0 (at_none g 0 0 (inl (omega arith))))
 
-pub told_from : (g : Geometry) (image : List Sector) (sector : Sector) → IsGeometry g → sector.bytes ≡ encoding g → IsUntold g image → IsTold g (with_at 0 (sector ∷ []) image)
-told_from g image sector shape encodes untold =
+pub finished_from : (g : Geometry) (image : List Sector) (sector : Sector) → IsGeometry g → sector.bytes ≡ encoding g → AwaitsSuperblock g image → IsFinished g (with_at 0 (sector ∷ []) image)
+finished_from g image sector shape encodes awaits =
     let least = large g shape in
     let room = up_to 0 g.groups (group_sectors g) shape.groups.0 in
     let pieces : List Sector = sector ∷ [] in
-    let fits : 0 + length pieces ≤ length image = omega (arith, untold.size) in
+    let fits : 0 + length pieces ≤ length image = omega (arith, awaits.size) in
     record {
-      size = omega (arith, untold.size, length-with_at 0 pieces image fits);
+      size = omega (arith, awaits.size, length-with_at 0 pieces image fits);
       first = encodes;
-      groups = λ group place lt low some. put_behind 0 (sector_in g group place) pieces image fits (omega arith) ∙ untold.groups group place lt low;
-      anchor = put_behind 0 (anchor_of g) pieces image fits (omega arith) ∙ untold.anchor;
-      ring = λ s gt. put_behind 0 s pieces image fits (omega arith) ∙ untold.ring s gt;
+      groups = λ group place lt low some. put_behind 0 (sector_in g group place) pieces image fits (omega arith) ∙ awaits.groups group place lt low;
+      anchor = put_behind 0 (anchor_of g) pieces image fits (omega arith) ∙ awaits.anchor;
+      ring = λ s gt. put_behind 0 s pieces image fits (omega arith) ∙ awaits.ring s gt;
     }
 
 old_or_new : (sector : Sector) (old image : List Sector) → IsTorn 0 (sector ∷ []) old image → (image ≡ old) ⊎ (image ≡ with_at 0 (sector ∷ []) old)

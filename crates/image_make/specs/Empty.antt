@@ -25,14 +25,14 @@ pub record AreMade (g : Geometry) (n : ℕ) (image : List Sector) : Type 0 where
   pub behind : (s : ℕ) → n * group_sectors g ≤ s → sector_at image s ≡ zero_sector
 
 -- All groups and the anchor are made, and each sector behind them is zero. No superblock tells so yet.
-pub record IsUntold (g : Geometry) (image : List Sector) : Type 0 where
+pub record AwaitsSuperblock (g : Geometry) (image : List Sector) : Type 0 where
   pub size : anchor_of g + 1 + g.ring ≤ length image
   pub groups : (group place : ℕ) → group < g.groups → place < group_sectors g → sector_at image (sector_in g group place) ≡ empty_sector g group place
   pub anchor : sector_at image (anchor_of g) ≡ anchor_sector g.ring 1
   pub ring : (s : ℕ) → anchor_of g < s → sector_at image s ≡ zero_sector
 
 -- the same with its superblock
-pub record IsTold (g : Geometry) (image : List Sector) : Type 0 where
+pub record IsFinished (g : Geometry) (image : List Sector) : Type 0 where
   pub size : anchor_of g + 1 + g.ring ≤ length image
   pub first : (sector_at image 0).bytes ≡ encoding g
   pub groups : (group place : ℕ) → group < g.groups → place < group_sectors g → 0 < sector_in g group place

@@ -28,9 +28,9 @@ IsBlankOrEmpty g image = FirstDamage image superblock 0 ⊎ IsEmptyImage g image
 
 -- Calls of a disk: each image that a stop then leaves, and each that a stop in them left, has P; the disk has as many sectors as before, and it is armed
 -- as some number of writes leaves it.
-pub record LeavesOnly {D : Type 0} (told : Bool) (cells : D → List Cell) (sector_count moment : D → ℕ) (arming : D → Arming) (left : D → ℕ → List Sector → Type 0)
+pub record LeavesOnly {D : Type 0} (known : Bool) (cells : D → List Cell) (sector_count moment : D → ℕ) (arming : D → Arming) (left : D → ℕ → List Sector → Type 0)
     (P : List Sector → Type 0) (old new : D) : Type 0 where
-  pub images : IsTrue told → (image : List Sector) → IsImage (cells new) image → P image
-  pub moments : IsTrue told → Elapses (moment old) (moment new) (left old) (left new) P
+  pub images : IsTrue known → (image : List Sector) → IsImage (cells new) image → P image
+  pub moments : IsTrue known → Elapses (moment old) (moment new) (left old) (left new) P
   pub sectors : sector_count new ≡ sector_count old
   pub armed : IsAfterWrites (arming old) (arming new)

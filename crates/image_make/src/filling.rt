@@ -6,7 +6,7 @@ ghost use Rattle.disk_model.specs.Disk.{as_read};
 ghost use Rattle.geometry.specs.Shape.{IsGeometry};
 ghost use Rattle.log_image.specs.Anchor.{anchor_sector};
 ghost use Rattle.whole_image.specs.Front.{anchor_of};
-ghost use Rattle.image_make.specs.Empty.{AreMade, IsUntold};
+ghost use Rattle.image_make.specs.Empty.{AreMade, AwaitsSuperblock};
 ghost use Rattle.image_make.specs.Outcome.{IsBlank, LeavesBlank, LeavesOnly};
 
 use crate::empty::{HEAD_PLACE, empty_bitmap, empty_head};
@@ -22,9 +22,9 @@ fn write_behind<D: Disk>(disk: &mut D, at: u64, pieces: &[Sector]) -> Result<(),
     requires some { 0 < length pieces.now }
     requires behind { 0 < at }
     requires within { at + length pieces.now ≤ D.sector_count disk.old }
-    requires blank { IsTrue D.told → LeavesBlank (D.cells disk.old) }
-    ensures leaves { LeavesOnly D.told D.cells D.sector_count D.moment D.arming D.left_since IsBlank disk.old disk.new }
-    ensures read { IsTrue D.told → OnOk result (as_read (D.cells disk.new) ≡ take at (as_read (D.cells disk.old)) ++ pieces.now
+    requires blank { IsTrue D.known → LeavesBlank (D.cells disk.old) }
+    ensures leaves { LeavesOnly D.known D.cells D.sector_count D.moment D.arming D.left_since IsBlank disk.old disk.new }
+    ensures read { IsTrue D.known → OnOk result (as_read (D.cells disk.new) ≡ take at (as_read (D.cells disk.old)) ++ pieces.now
         ++ drop (at + length pieces.now) (as_read (D.cells disk.old))) }
     ensures cause { HasCause result (D.fault_count disk.old) (D.fault_count disk.new) }
 {
@@ -35,10 +35,10 @@ fn write_behind<D: Disk>(disk: &mut D, at: u64, pieces: &[Sector]) -> Result<(),
 fn write_groups<D: Disk>(g: &Geometry, disk: &mut D) -> Result<(), Failed>
     requires shape { IsGeometry g.now }
     requires size { anchor_of g.now + 1 + g.now.ring ≤ D.sector_count disk.old }
-    requires blank { IsTrue D.told → LeavesBlank (D.cells disk.old) }
-    requires zero { IsTrue D.told → AreMade g.now 0 (as_read (D.cells disk.old)) }
-    ensures leaves { LeavesOnly D.told D.cells D.sector_count D.moment D.arming D.left_since IsBlank disk.old disk.new }
-    ensures made { IsTrue D.told → OnOk result (AreMade g.now g.now.groups (as_read (D.cells disk.new))) }
+    requires blank { IsTrue D.known → LeavesBlank (D.cells disk.old) }
+    requires zero { IsTrue D.known → AreMade g.now 0 (as_read (D.cells disk.old)) }
+    ensures leaves { LeavesOnly D.known D.cells D.sector_count D.moment D.arming D.left_since IsBlank disk.old disk.new }
+    ensures made { IsTrue D.known → OnOk result (AreMade g.now g.now.groups (as_read (D.cells disk.new))) }
     ensures cause { HasCause result (D.fault_count disk.old) (D.fault_count disk.new) }
 {
     let free_blocks = empty_bitmap(g.blocks);
@@ -63,13 +63,13 @@ fn first_anchor(g: &Geometry) -> Sector
 }
 
 /// Writes all but the superblock.
-pub(crate) fn write_untold<D: Disk>(g: &Geometry, disk: &mut D) -> Result<(), Failed>
+pub(crate) fn write_without_superblock<D: Disk>(g: &Geometry, disk: &mut D) -> Result<(), Failed>
     requires shape { IsGeometry g.now }
     requires size { anchor_of g.now + 1 + g.now.ring ≤ D.sector_count disk.old }
-    requires blank { IsTrue D.told → LeavesBlank (D.cells disk.old) }
-    requires zero { IsTrue D.told → AreMade g.now 0 (as_read (D.cells disk.old)) }
-    ensures leaves { LeavesOnly D.told D.cells D.sector_count D.moment D.arming D.left_since IsBlank disk.old disk.new }
-    ensures made { IsTrue D.told → OnOk result (IsUntold g.now (as_read (D.cells disk.new))) }
+    requires blank { IsTrue D.known → LeavesBlank (D.cells disk.old) }
+    requires zero { IsTrue D.known → AreMade g.now 0 (as_read (D.cells disk.old)) }
+    ensures leaves { LeavesOnly D.known D.cells D.sector_count D.moment D.arming D.left_since IsBlank disk.old disk.new }
+    ensures made { IsTrue D.known → OnOk result (AwaitsSuperblock g.now (as_read (D.cells disk.new))) }
     ensures cause { HasCause result (D.fault_count disk.old) (D.fault_count disk.new) }
 {
     write_groups(g, disk)?;

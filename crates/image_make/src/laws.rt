@@ -4,7 +4,7 @@ ghost use Rattle.std.specs.Prelude.{List};
 ghost use Rattle.life_bytes.specs.declared.sector.Sector.{Sector};
 ghost use Rattle.geometry.specs.declared.shape.Geometry.{Geometry};
 ghost use Rattle.geometry.specs.Shape.{IsGeometry};
-ghost use Rattle.image_make.specs.Empty.{IsTold};
+ghost use Rattle.image_make.specs.Empty.{IsFinished};
 ghost use Rattle.image_make.specs.Outcome.{IsBlank, IsBlankOrEmpty, IsEmptyImage};
 
 use life_table::tables_stay_well_formed;
@@ -13,7 +13,7 @@ use whole_image::{blank_images_are_damaged, encoded_images_stand};
 /// Laws of the sectors: without the superblock an image is damaged, and with it the image stands for the empty table.
 pub(crate) fn made_images()
     ensures blank { (g : Geometry) (image : List Sector) → IsBlank image → IsBlankOrEmpty g image }
-    ensures told { (g : Geometry) (image : List Sector) → IsGeometry g → IsTold g image → IsEmptyImage g image }
+    ensures finished { (g : Geometry) (image : List Sector) → IsGeometry g → IsFinished g image → IsEmptyImage g image }
 {
     tables_stay_well_formed();
     encoded_images_stand();

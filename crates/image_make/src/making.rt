@@ -6,29 +6,29 @@ ghost use Rattle.life_ports.specs.Faults.{NeverFalls, Rose};
 ghost use Rattle.disk_model.specs.Disk.{HasOneImage, as_read, settled_as};
 ghost use Rattle.geometry.specs.Shape.{IsGeometry};
 ghost use Rattle.whole_image.specs.Front.{anchor_of};
-ghost use Rattle.image_make.specs.Empty.{AreMade, IsTold, IsUntold};
+ghost use Rattle.image_make.specs.Empty.{AreMade, IsFinished, AwaitsSuperblock};
 ghost use Rattle.image_make.specs.Outcome.{IsBlank, IsBlankOrEmpty, IsEmptyImage, LeavesBlank, LeavesOnly};
 
 use crate::fault::MakeFault;
-use crate::filling::write_untold;
+use crate::filling::write_without_superblock;
 use crate::laws::made_images;
 use disk_model::Disk;
 use geometry::{Geometry, write_super};
 use life_bytes::Sector;
 
 /// Makes all but the superblock durable.
-fn make_untold<D: Disk>(g: &Geometry, disk: &mut D) -> Result<(), MakeFault>
+fn make_without_superblock<D: Disk>(g: &Geometry, disk: &mut D) -> Result<(), MakeFault>
     requires shape { IsGeometry g.now }
     requires size { anchor_of g.now + 1 + g.now.ring ≤ D.sector_count disk.old }
-    requires blank { IsTrue D.told → LeavesBlank (D.cells disk.old) }
-    requires zero { IsTrue D.told → AreMade g.now 0 (as_read (D.cells disk.old)) }
-    ensures leaves { LeavesOnly D.told D.cells D.sector_count D.moment D.arming D.left_since IsBlank disk.old disk.new }
-    ensures made { IsTrue D.told → OnOk result (HasOneImage (D.cells disk.new) × IsUntold g.now (as_read (D.cells disk.new))) }
+    requires blank { IsTrue D.known → LeavesBlank (D.cells disk.old) }
+    requires zero { IsTrue D.known → AreMade g.now 0 (as_read (D.cells disk.old)) }
+    ensures leaves { LeavesOnly D.known D.cells D.sector_count D.moment D.arming D.left_since IsBlank disk.old disk.new }
+    ensures made { IsTrue D.known → OnOk result (HasOneImage (D.cells disk.new) × AwaitsSuperblock g.now (as_read (D.cells disk.new))) }
     ensures fault { OnErr result (Rose (D.fault_count disk.old) (D.fault_count disk.new)) }
     ensures count { NeverFalls (D.fault_count disk.old) (D.fault_count disk.new) }
-    ensures flush_fault { IsTrue D.told → result ≡ Err MakeFault.FlushFault → IsUntold g.now (as_read (D.cells disk.new)) }
+    ensures flush_fault { IsTrue D.known → result ≡ Err MakeFault.FlushFault → AwaitsSuperblock g.now (as_read (D.cells disk.new)) }
 {
-    let Ok(()) = write_untold(g, disk) else {
+    let Ok(()) = write_without_superblock(g, disk) else {
         return Err(MakeFault::WriteFault);
     };
     let Ok(()) = disk.flush() else {
@@ -38,16 +38,16 @@ fn make_untold<D: Disk>(g: &Geometry, disk: &mut D) -> Result<(), MakeFault>
 }
 
 /// Makes the superblock durable, which is the last sector to be written.
-fn make_told<D: Disk>(g: &Geometry, disk: &mut D) -> Result<(), MakeFault>
+fn finish<D: Disk>(g: &Geometry, disk: &mut D) -> Result<(), MakeFault>
     requires shape { IsGeometry g.now }
     requires size { anchor_of g.now + 1 + g.now.ring ≤ D.sector_count disk.old }
-    requires one { IsTrue D.told → HasOneImage (D.cells disk.old) }
-    requires untold { IsTrue D.told → IsUntold g.now (as_read (D.cells disk.old)) }
-    ensures leaves { LeavesOnly D.told D.cells D.sector_count D.moment D.arming D.left_since (IsBlankOrEmpty g.now) disk.old disk.new }
-    ensures made { IsTrue D.told → OnOk result (HasOneImage (D.cells disk.new) × IsEmptyImage g.now (as_read (D.cells disk.new))) }
+    requires one { IsTrue D.known → HasOneImage (D.cells disk.old) }
+    requires awaits { IsTrue D.known → AwaitsSuperblock g.now (as_read (D.cells disk.old)) }
+    ensures leaves { LeavesOnly D.known D.cells D.sector_count D.moment D.arming D.left_since (IsBlankOrEmpty g.now) disk.old disk.new }
+    ensures made { IsTrue D.known → OnOk result (HasOneImage (D.cells disk.new) × IsEmptyImage g.now (as_read (D.cells disk.new))) }
     ensures fault { OnErr result (Rose (D.fault_count disk.old) (D.fault_count disk.new)) }
     ensures count { NeverFalls (D.fault_count disk.old) (D.fault_count disk.new) }
-    ensures flush_fault { IsTrue D.told → result ≡ Err MakeFault.FlushFault → IsEmptyImage g.now (as_read (D.cells disk.new)) }
+    ensures flush_fault { IsTrue D.known → result ≡ Err MakeFault.FlushFault → IsEmptyImage g.now (as_read (D.cells disk.new)) }
 {
     made_images();
     let mut sector = Sector::zero();
@@ -68,17 +68,17 @@ fn make_told<D: Disk>(g: &Geometry, disk: &mut D) -> Result<(), MakeFault>
 pub fn make<D: Disk>(g: &Geometry, disk: &mut D) -> Result<(), MakeFault>
     requires shape { IsGeometry g.now }
     requires size { anchor_of g.now + 1 + g.now.ring ≤ D.sector_count disk.old }
-    requires blank { IsTrue D.told → D.cells disk.old ≡ settled_as (replicate (D.sector_count disk.old) zero_sector) }
+    requires blank { IsTrue D.known → D.cells disk.old ≡ settled_as (replicate (D.sector_count disk.old) zero_sector) }
     // What the disk holds then: the image of the table without a file, in each place that a stop may leave.
-    ensures made { IsTrue D.told → OnOk result (HasOneImage (D.cells disk.new) × IsEmptyImage g.now (as_read (D.cells disk.new))) }
+    ensures made { IsTrue D.known → OnOk result (HasOneImage (D.cells disk.new) × IsEmptyImage g.now (as_read (D.cells disk.new))) }
     // At every moment, whatever the answer.
-    ensures leaves { LeavesOnly D.told D.cells D.sector_count D.moment D.arming D.left_since (IsBlankOrEmpty g.now) disk.old disk.new }
+    ensures leaves { LeavesOnly D.known D.cells D.sector_count D.moment D.arming D.left_since (IsBlankOrEmpty g.now) disk.old disk.new }
     ensures fault { OnErr result (Rose (D.fault_count disk.old) (D.fault_count disk.new)) }
     ensures count { NeverFalls (D.fault_count disk.old) (D.fault_count disk.new) }
     // A flush is tried only when all that comes before it reads as written.
-    ensures flush_fault { IsTrue D.told → result ≡ Err MakeFault.FlushFault → IsUntold g.now (as_read (D.cells disk.new)) ⊎ IsEmptyImage g.now (as_read (D.cells disk.new)) }
+    ensures flush_fault { IsTrue D.known → result ≡ Err MakeFault.FlushFault → AwaitsSuperblock g.now (as_read (D.cells disk.new)) ⊎ IsEmptyImage g.now (as_read (D.cells disk.new)) }
 {
     made_images();
-    make_untold(g, disk)?;
-    make_told(g, disk)
+    make_without_superblock(g, disk)?;
+    finish(g, disk)
 }

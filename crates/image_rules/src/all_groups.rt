@@ -36,8 +36,8 @@ fn judge<V: View>(
     requires shape { IsGeometry g.now }
     requires inside { group < g.now.groups }
     requires size { g.now.groups * group_sectors g.now ≤ V.sector_count view.old }
-    ensures judged { IsTrue V.told → IfOk result (λ verdict. IsJudged g.now (V.image view.old) group verdict.damage) }
-    ensures counted { IsTrue V.told → IfOk result (λ verdict. verdict.damage ≡ None → IsCounted g.now (V.image view.old) group verdict.tables) }
+    ensures judged { IsTrue V.known → IfOk result (λ verdict. IsJudged g.now (V.image view.old) group verdict.damage) }
+    ensures counted { IsTrue V.known → IfOk result (λ verdict. verdict.damage ≡ None → IsCounted g.now (V.image view.old) group verdict.tables) }
     ensures outside { IfErr result (IsOutside (V.fault_count view.old) (V.fault_count view.new)) }
     ensures only_read { V.only_read view.old view.new }
 {
@@ -94,9 +94,9 @@ pub fn check_groups<V: View>(
     requires shape { IsGeometry g.now }
     requires size { g.now.groups * group_sectors g.now ≤ V.sector_count view.old }
     // Where the view tells, the groups are sound where it is Ok, the numbers are those of their table, and damage is the first of them.
-    ensures sound { IsTrue V.told → OnOk result (IsSound g.now (V.image view.old)) }
-    ensures counted { IsTrue V.told → IfOk result (HasTables g.now (V.image view.old)) }
-    ensures damaged { IsTrue V.told → IfErr result (IsDamage g.now (V.image view.old)) }
+    ensures sound { IsTrue V.known → OnOk result (IsSound g.now (V.image view.old)) }
+    ensures counted { IsTrue V.known → IfOk result (HasTables g.now (V.image view.old)) }
+    ensures damaged { IsTrue V.known → IfErr result (IsDamage g.now (V.image view.old)) }
     ensures read_fault { IfErr result (IsCaused (V.fault_count view.old) (V.fault_count view.new)) }
     ensures only_read { V.only_read view.old view.new }
 {

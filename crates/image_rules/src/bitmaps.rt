@@ -62,8 +62,8 @@ pub(crate) fn check_bitmap<V: View>(
     requires shape { IsGeometry g.now }
     requires inside { group < g.now.groups }
     requires size { g.now.groups * group_sectors g.now ≤ V.sector_count view.old }
-    ensures right { IsTrue V.told → map.now ≡ free_set g.now.blocks (group_read g.now (V.image view.old) group) → OnOk result (HoldsIn g.now (V.image view.old) bitmap group) }
-    ensures fault { IsTrue V.told → map.now ≡ free_set g.now.blocks (group_read g.now (V.image view.old) group) → IfErr result (BitmapFault g.now (V.image view.old) group) }
+    ensures right { IsTrue V.known → map.now ≡ free_set g.now.blocks (group_read g.now (V.image view.old) group) → OnOk result (HoldsIn g.now (V.image view.old) bitmap group) }
+    ensures fault { IsTrue V.known → map.now ≡ free_set g.now.blocks (group_read g.now (V.image view.old) group) → IfErr result (BitmapFault g.now (V.image view.old) group) }
     ensures cause { IfErr result (IsCaused (V.fault_count view.old) (V.fault_count view.new)) }
     ensures only_read { V.only_read view.old view.new }
 {

@@ -52,9 +52,9 @@ pub(crate) fn check_header<V: View>(
     requires shape { IsGeometry g.now }
     requires inside { group < g.now.groups }
     requires size { g.now.groups * group_sectors g.now ≤ V.sector_count view.old }
-    ensures right { IsTrue V.told → IfOk result (λ agi. IsHeaderRight g.now (V.image view.old) group × (header_of g.now (V.image view.old) group ≡ agi)) }
+    ensures right { IsTrue V.known → IfOk result (λ agi. IsHeaderRight g.now (V.image view.old) group × (header_of g.now (V.image view.old) group ≡ agi)) }
     ensures allowed { IfOk result IsAgi }
-    ensures fault { IsTrue V.told → IfErr result (FaultIn g.now (V.image view.old) group) }
+    ensures fault { IsTrue V.known → IfErr result (FaultIn g.now (V.image view.old) group) }
     ensures cause { IfErr result (IsCaused (V.fault_count view.old) (V.fault_count view.new)) }
     ensures only_read { V.only_read view.old view.new }
 {
@@ -81,10 +81,10 @@ pub(crate) fn check_leaf<V: View>(
     requires inside { group < g.now.groups }
     requires size { g.now.groups * group_sectors g.now ≤ V.sector_count view.old }
     requires allowed { IsAgi agi.now }
-    ensures right { IsTrue V.told → header_of g.now (V.image view.old) group ≡ agi.now
+    ensures right { IsTrue V.known → header_of g.now (V.image view.old) group ≡ agi.now
         → IfOk result (λ leaf. HoldsIn g.now (V.image view.old) tree group × (records_of g.now (V.image view.old) group ≡ leaf)) }
     ensures in_data { IfOk result (λ leaf. All (IsInData g.now.blocks) leaf) }
-    ensures fault { IsTrue V.told → IsHeaderRight g.now (V.image view.old) group → header_of g.now (V.image view.old) group ≡ agi.now
+    ensures fault { IsTrue V.known → IsHeaderRight g.now (V.image view.old) group → header_of g.now (V.image view.old) group ≡ agi.now
         → IfErr result (FaultIn g.now (V.image view.old) group) }
     ensures cause { IfErr result (IsCaused (V.fault_count view.old) (V.fault_count view.new)) }
     ensures only_read { V.only_read view.old view.new }
@@ -122,12 +122,12 @@ pub(crate) fn check_inodes<V: View>(
     requires inside { group < g.now.groups }
     requires size { g.now.groups * group_sectors g.now ≤ V.sector_count view.old }
     requires in_data { All (IsInData g.now.blocks) leaf.now }
-    ensures right { IsTrue V.told → records_of g.now (V.image view.old) group ≡ leaf.now
+    ensures right { IsTrue V.known → records_of g.now (V.image view.old) group ≡ leaf.now
         → IfOk result (λ found. AllGathered g.now (V.image view.old) group found.map found.fork found.shared
         × AllNoted g.now (V.image view.old) group found.links.orphans.entries found.links.pointing) }
-    ensures counted { IsTrue V.told → records_of g.now (V.image view.old) group ≡ leaf.now
+    ensures counted { IsTrue V.known → records_of g.now (V.image view.old) group ≡ leaf.now
         → IfOk result (λ found. length found.links.orphans.entries ≡ orphans_in (group_read g.now (V.image view.old) group)) }
-    ensures fault { IsTrue V.told → records_of g.now (V.image view.old) group ≡ leaf.now → IfErr result (CoreFault g.now (V.image view.old) group) }
+    ensures fault { IsTrue V.known → records_of g.now (V.image view.old) group ≡ leaf.now → IfErr result (CoreFault g.now (V.image view.old) group) }
     ensures cause { IfErr result (IsCaused (V.fault_count view.old) (V.fault_count view.new)) }
     ensures only_read { V.only_read view.old view.new }
 {

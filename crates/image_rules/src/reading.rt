@@ -12,7 +12,7 @@ use std::alloc::Global;
 
 pub(crate) fn read_sector<V: View>(view: &mut V, at: u64) -> Result<Sector, CheckFault>
     requires { at < V.sector_count view.old }
-    ensures shown { IsTrue V.told → IfOk result (λ sector. bytes_at (V.image view.old) at ≡ sector.bytes) }
+    ensures shown { IsTrue V.known → IfOk result (λ sector. bytes_at (V.image view.old) at ≡ sector.bytes) }
     ensures outside { IfErr result (IsOutside (V.fault_count view.old) (V.fault_count view.new)) }
     ensures only_read { V.only_read view.old view.new }
 {
@@ -30,7 +30,7 @@ pub(crate) fn read_sectors<V: View>(
 ) -> Result<Vec<Sector>, CheckFault>
     requires within { at + count ≤ V.sector_count view.old }
     requires small { at + count < 2 ^ 64 }
-    ensures shown { IsTrue V.told → IfOk result (λ sectors. Shows (V.image view.old) at sectors.items) }
+    ensures shown { IsTrue V.known → IfOk result (λ sectors. Shows (V.image view.old) at sectors.items) }
     ensures many { IfOk result (λ sectors. length sectors.items ≡ count) }
     ensures outside { IfErr result (IsOutside (V.fault_count view.old) (V.fault_count view.new)) }
     ensures only_read { V.only_read view.old view.new }

@@ -39,9 +39,9 @@ fn check_space<V: View>(
     requires shape { IsGeometry g.now }
     requires inside { group < g.now.groups }
     requires size { g.now.groups * group_sectors g.now ≤ V.sector_count view.old }
-    ensures right { IsTrue V.told → IfOk result (λ space. SpaceHolds g.now (V.image view.old) group × (header_of g.now (V.image view.old) group ≡ space.header)
+    ensures right { IsTrue V.known → IfOk result (λ space. SpaceHolds g.now (V.image view.old) group × (header_of g.now (V.image view.old) group ≡ space.header)
         × AllNoted g.now (V.image view.old) group space.links.orphans.entries space.links.pointing × IsCounted g.now (V.image view.old) group space.tables) }
-    ensures damaged { IsTrue V.told → IfErr result (FaultIn g.now (V.image view.old) group) }
+    ensures damaged { IsTrue V.known → IfErr result (FaultIn g.now (V.image view.old) group) }
     ensures read_fault { IfErr result (IsCaused (V.fault_count view.old) (V.fault_count view.new)) }
     ensures only_read { V.only_read view.old view.new }
 {
@@ -83,9 +83,9 @@ pub fn check_group<V: View>(
     requires inside { group < g.now.groups }
     requires size { g.now.groups * group_sectors g.now ≤ V.sector_count view.old }
     // Where the view tells, the rules hold where it is Ok, the numbers are the group's, and damage is the first of the group.
-    ensures right { IsTrue V.told → OnOk result (AllHold g.now (V.image view.old) group) }
-    ensures counted { IsTrue V.told → IfOk result (IsCounted g.now (V.image view.old) group) }
-    ensures damaged { IsTrue V.told → IfErr result (FaultIn g.now (V.image view.old) group) }
+    ensures right { IsTrue V.known → OnOk result (AllHold g.now (V.image view.old) group) }
+    ensures counted { IsTrue V.known → IfOk result (IsCounted g.now (V.image view.old) group) }
+    ensures damaged { IsTrue V.known → IfErr result (FaultIn g.now (V.image view.old) group) }
     ensures read_fault { IfErr result (IsCaused (V.fault_count view.old) (V.fault_count view.new)) }
     ensures only_read { V.only_read view.old view.new }
 {

@@ -66,9 +66,9 @@ complete_on result ended (inl e) due =
     subst (λ (s : Status). (s ≡ status.WriteFault) ⊎ ((s ≡ status.FlushFault) ⊎ Yields s status.Good)) (sym e) due
 complete_on result ended (inr other) due = inr (inr (inr other))
 
-making_on : (told : Bool) (g : Geometry) (cells : List Cell) (sectors before after : ℕ) (result ended : Status) → Yields result ended
-    → IsMaking told g cells sectors before after ended → IsMaking told g cells sectors before after result
-making_on told g cells sectors before after result ended yields making = record {
+making_on : (known : Bool) (g : Geometry) (cells : List Cell) (sectors before after : ℕ) (result ended : Status) → Yields result ended
+    → IsMaking known g cells sectors before after ended → IsMaking known g cells sectors before after result
+making_on known g cells sectors before after result ended yields making = record {
   size = making.size;
   made = λ is. making.made (own_status result ended status.Good yields (λ e. cc) (λ e. cc) is);
   wherever = making.wherever;
@@ -79,41 +79,41 @@ making_on told g cells sectors before after result ended yields making = record 
 }
 
 -- what was made stands when the output is written
-pub Makes-written : {D : Type 0} (told : Bool) (cells : D → List Cell) (sectors faults : D → ℕ) (path : List ℕ) (g : Geometry) (old new : List Given)
-    (disk disk' : Option D) (result ended : Status) → disk' ≡ disk → Yields result ended → Makes told cells sectors faults path g old new disk ended
-    → Makes told cells sectors faults path g old new disk' result
-Makes-written told cells sectors faults path g old new None disk' result ended same yields makes =
-    subst (λ o. Makes told cells sectors faults path g old new o result) (sym same) (makes.0, yields_on result ended status.OpenFault yields makes.1)
-Makes-written told cells sectors faults path g old new (Some d) disk' result ended same yields makes =
-    subst (λ o. Makes told cells sectors faults path g old new o result) (sym same)
-    (makes.0, makes.1, making_on told g (cells d) (sectors d) makes.0 (faults d) result ended yields makes.2)
+pub Makes-written : {D : Type 0} (known : Bool) (cells : D → List Cell) (sectors faults : D → ℕ) (path : List ℕ) (g : Geometry) (old new : List Given)
+    (disk disk' : Option D) (result ended : Status) → disk' ≡ disk → Yields result ended → Makes known cells sectors faults path g old new disk ended
+    → Makes known cells sectors faults path g old new disk' result
+Makes-written known cells sectors faults path g old new None disk' result ended same yields makes =
+    subst (λ o. Makes known cells sectors faults path g old new o result) (sym same) (makes.0, yields_on result ended status.OpenFault yields makes.1)
+Makes-written known cells sectors faults path g old new (Some d) disk' result ended same yields makes =
+    subst (λ o. Makes known cells sectors faults path g old new o result) (sym same)
+    (makes.0, makes.1, making_on known g (cells d) (sectors d) makes.0 (faults d) result ended yields makes.2)
 
 -- it stands of the disk that is handed back
-pub Makes-on : {D : Type 0} (told : Bool) (cells : D → List Cell) (sectors faults : D → ℕ) (path : List ℕ) (g : Geometry) (old new : List Given)
-    (disk disk' : Option D) (ended : Status) → disk' ≡ disk → Makes told cells sectors faults path g old new disk ended
-    → Makes told cells sectors faults path g old new disk' ended
-Makes-on told cells sectors faults path g old new disk disk' ended same makes =
-    subst (λ o. Makes told cells sectors faults path g old new o ended) (sym same) makes
+pub Makes-on : {D : Type 0} (known : Bool) (cells : D → List Cell) (sectors faults : D → ℕ) (path : List ℕ) (g : Geometry) (old new : List Given)
+    (disk disk' : Option D) (ended : Status) → disk' ≡ disk → Makes known cells sectors faults path g old new disk ended
+    → Makes known cells sectors faults path g old new disk' ended
+Makes-on known cells sectors faults path g old new disk disk' ended same makes =
+    subst (λ o. Makes known cells sectors faults path g old new o ended) (sym same) makes
 
 not_open : (result x : Status) → Yields result status.OpenFault → (status.OpenFault ≡ x → ⊥) → (status.SinkFault ≡ x → ⊥) → (status.NoMemory ≡ x → ⊥) → result ≡ x → ⊥
 not_open result x yields opened sink memory is = opened (own_status result status.OpenFault x yields sink memory is)
 
 -- a fault of the device is one of the disk that was created
-pub failed_write : {D : Type 0} (told : Bool) (cells : D → List Cell) (sectors faults : D → ℕ) (words : List (String Global)) (path : List ℕ) (g : Geometry)
-    (old new : List Given) (disk : Option D) (result : Status) → IsMake words path g → Makes told cells sectors faults path g old new disk result
+pub failed_write : {D : Type 0} (known : Bool) (cells : D → List Cell) (sectors faults : D → ℕ) (words : List (String Global)) (path : List ℕ) (g : Geometry)
+    (old new : List Given) (disk : Option D) (result : Status) → IsMake words path g → Makes known cells sectors faults path g old new disk result
     → result ≡ status.WriteFault → FailedInMake faults words old new disk
-failed_write told cells sectors faults words path g old new None result make makes is = not_open result status.WriteFault makes.1 (λ e. cc) (λ e. cc) (λ e. cc) is
-failed_write told cells sectors faults words path g old new (Some d) result make makes is = (path, (g, make, (makes.0, makes.1, makes.2.write_fault is)))
+failed_write known cells sectors faults words path g old new None result make makes is = not_open result status.WriteFault makes.1 (λ e. cc) (λ e. cc) (λ e. cc) is
+failed_write known cells sectors faults words path g old new (Some d) result make makes is = (path, (g, make, (makes.0, makes.1, makes.2.write_fault is)))
 
-pub failed_flush : {D : Type 0} (told : Bool) (cells : D → List Cell) (sectors faults : D → ℕ) (words : List (String Global)) (path : List ℕ) (g : Geometry)
-    (old new : List Given) (disk : Option D) (result : Status) → IsMake words path g → Makes told cells sectors faults path g old new disk result
+pub failed_flush : {D : Type 0} (known : Bool) (cells : D → List Cell) (sectors faults : D → ℕ) (words : List (String Global)) (path : List ℕ) (g : Geometry)
+    (old new : List Given) (disk : Option D) (result : Status) → IsMake words path g → Makes known cells sectors faults path g old new disk result
     → result ≡ status.FlushFault → FailedInMake faults words old new disk
-failed_flush told cells sectors faults words path g old new None result make makes is = not_open result status.FlushFault makes.1 (λ e. cc) (λ e. cc) (λ e. cc) is
-failed_flush told cells sectors faults words path g old new (Some d) result make makes is = (path, (g, make, (makes.0, makes.1, makes.2.flush_fault is)))
+failed_flush known cells sectors faults words path g old new None result make makes is = not_open result status.FlushFault makes.1 (λ e. cc) (λ e. cc) (λ e. cc) is
+failed_flush known cells sectors faults words path g old new (Some d) result make makes is = (path, (g, make, (makes.0, makes.1, makes.2.flush_fault is)))
 
 -- a make hands back the disk that was created
-pub created_back : {D : Type 0} (told : Bool) (cells : D → List Cell) (sectors faults : D → ℕ) (words : List (String Global)) (path : List ℕ) (g : Geometry)
-    (old new : List Given) (disk : Option D) (result : Status) (Early : Type 0) → IsMake words path g → Early → Makes told cells sectors faults path g old new disk result
+pub created_back : {D : Type 0} (known : Bool) (cells : D → List Cell) (sectors faults : D → ℕ) (words : List (String Global)) (path : List ℕ) (g : Geometry)
+    (old new : List Given) (disk : Option D) (result : Status) (Early : Type 0) → IsMake words path g → Early → Makes known cells sectors faults path g old new disk result
     → MatchOption disk ((new ≡ old) × Early) (λ _. IsGiven words old new)
-created_back told cells sectors faults words path g old new None result Early make early makes = (makes.0, early)
-created_back told cells sectors faults words path g old new (Some d) result Early make early makes = (path, (makes.0, inr (g, make, makes.1)))
+created_back known cells sectors faults words path g old new None result Early make early makes = (makes.0, early)
+created_back known cells sectors faults words path g old new (Some d) result Early make early makes = (path, (makes.0, inr (g, make, makes.1)))

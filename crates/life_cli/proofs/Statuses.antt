@@ -7,7 +7,7 @@ use Rattle.thin_run.specs.declared.types.Status.TheVariants as status
 use Rattle.std.specs.Option.{MatchOption, IfSome}
 use Rattle.life_limits.specs.declared.TheConstants.{MAX_SCRIPT_BYTES}
 use Rattle.disk_model.specs.Images.{Given, attached}
-use Rattle.life_cli.specs.Outcome.{Yields, YieldsRead, Replied, EndsAs, WhereTold, IsReadable, IsOutsideAt, CompletesAs, FaultsExactly, IsTooLongExactly}
+use Rattle.life_cli.specs.Outcome.{Yields, YieldsRead, Replied, EndsAs, WhereKnown, IsReadable, IsOutsideAt, CompletesAs, FaultsExactly, IsTooLongExactly}
 use Rattle.thin_run.specs.Outcome.{Caused}
 use Rattle.life_cli.specs.Script.{first_outside, lines_of}
 
@@ -51,22 +51,22 @@ due_fault bytes a b c d status.WriteFault result ends yields line outside = absu
 due_fault bytes a b c d status.FlushFault result ends yields line outside = absurd ends
 due_fault bytes a b c d status.NoMemory result ends yields line outside = by_memory result (status.ScriptFault line 0) yields
 
-told_fault : (bytes : List ℕ) (a b c d : ℕ) (ended result : Status) → EndsAs (Some bytes) a b c d ended → Yields result ended
+named_fault : (bytes : List ℕ) (a b c d : ℕ) (ended result : Status) → EndsAs (Some bytes) a b c d ended → Yields result ended
     → (line rule : ℕ) → result ≡ status.ScriptFault line rule → (rule ≡ 0) × IsOutsideAt bytes line
-told_fault bytes a b c d ended result ends (inl e) line rule is = subst (λ (s : Status). EndsAs (Some bytes) a b c d s) (sym e ∙ is) ends
-told_fault bytes a b c d ended result ends (inr (inl e)) line rule is =
+named_fault bytes a b c d ended result ends (inl e) line rule is = subst (λ (s : Status). EndsAs (Some bytes) a b c d s) (sym e ∙ is) ends
+named_fault bytes a b c d ended result ends (inr (inl e)) line rule is =
     let bad : status.SinkFault ≡ status.ScriptFault line rule = sym e ∙ is in
     absurd cc
-told_fault bytes a b c d ended result ends (inr (inr e)) line rule is =
+named_fault bytes a b c d ended result ends (inr (inr e)) line rule is =
     let bad : status.NoMemory ≡ status.ScriptFault line rule = sym e ∙ is in
     absurd cc
 
 -- a script fault comes exactly where it is due
 pub FaultsExactly-from : (script : Option (List ℕ)) (a b c d : ℕ) (ended result : Status) → EndsAs script a b c d ended → Yields result ended
-    → WhereTold script (λ bytes. FaultsExactly bytes result)
+    → WhereKnown script (λ bytes. FaultsExactly bytes result)
 FaultsExactly-from None a b c d ended result ends yields = tt
 FaultsExactly-from (Some bytes) a b c d ended result ends yields = record {
-  told = told_fault bytes a b c d ended result ends yields;
+  named = named_fault bytes a b c d ended result ends yields;
   exact = due_fault bytes a b c d ended result ends yields;
 }
 
@@ -89,22 +89,22 @@ due_long bytes a b c d status.WriteFault result ends yields long = absurd ends
 due_long bytes a b c d status.FlushFault result ends yields long = absurd ends
 due_long bytes a b c d status.NoMemory result ends yields long = by_memory result status.ScriptTooLong yields
 
-told_long : (bytes : List ℕ) (a b c d : ℕ) (ended result : Status) → EndsAs (Some bytes) a b c d ended → Yields result ended
+named_long : (bytes : List ℕ) (a b c d : ℕ) (ended result : Status) → EndsAs (Some bytes) a b c d ended → Yields result ended
     → result ≡ status.ScriptTooLong → MAX_SCRIPT_BYTES < length bytes
-told_long bytes a b c d ended result ends (inl e) is = subst (λ (s : Status). EndsAs (Some bytes) a b c d s) (sym e ∙ is) ends
-told_long bytes a b c d ended result ends (inr (inl e)) is =
+named_long bytes a b c d ended result ends (inl e) is = subst (λ (s : Status). EndsAs (Some bytes) a b c d s) (sym e ∙ is) ends
+named_long bytes a b c d ended result ends (inr (inl e)) is =
     let bad : status.SinkFault ≡ status.ScriptTooLong = sym e ∙ is in
     absurd cc
-told_long bytes a b c d ended result ends (inr (inr e)) is =
+named_long bytes a b c d ended result ends (inr (inr e)) is =
     let bad : status.NoMemory ≡ status.ScriptTooLong = sym e ∙ is in
     absurd cc
 
 -- a script is too long exactly where that is due
 pub IsTooLongExactly-from : (script : Option (List ℕ)) (a b c d : ℕ) (ended result : Status) → EndsAs script a b c d ended → Yields result ended
-    → WhereTold script (λ bytes. IsTooLongExactly bytes result)
+    → WhereKnown script (λ bytes. IsTooLongExactly bytes result)
 IsTooLongExactly-from None a b c d ended result ends yields = tt
 IsTooLongExactly-from (Some bytes) a b c d ended result ends yields = record {
-  told = told_long bytes a b c d ended result ends yields;
+  named = named_long bytes a b c d ended result ends yields;
   exact = due_long bytes a b c d ended result ends yields;
 }
 
@@ -126,7 +126,7 @@ complete bytes a b c d status.NoMemory result ends yields readable = inr (by_mem
 
 -- a readable script ends well, unless something failed
 pub CompletesAs-from : (script : Option (List ℕ)) (a b c d : ℕ) (ended result : Status) → EndsAs script a b c d ended → Yields result ended
-    → WhereTold script (λ bytes. IsReadable bytes → CompletesAs result)
+    → WhereKnown script (λ bytes. IsReadable bytes → CompletesAs result)
 CompletesAs-from None a b c d ended result ends yields = tt
 CompletesAs-from (Some bytes) a b c d ended result ends yields = complete bytes a b c d ended result ends yields
 

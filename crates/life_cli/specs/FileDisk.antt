@@ -14,5 +14,5 @@ abbrev pub all_given : List GivenFile → List Given
 all_given files = map given_of files
 
 -- a disk that does not tell what it holds owes nothing of it
-pub untold : {P : Type 0} → IsTrue false → P
-untold told = absurd (subst (λ (b : Bool). MatchBool b ⊥ ⊤) told tt)
+pub unknown : {P : Type 0} → IsTrue false → P
+unknown known = absurd (subst (λ (b : Bool). MatchBool b ⊥ ⊤) known tt)

@@ -10,7 +10,7 @@ use Rattle.geometry.specs.declared.shape.Geometry.{Geometry}
 use Rattle.whole_image.specs.Front.{anchor_of}
 use Rattle.image_make.specs.declared.fault.MakeFault.{MakeFault}
 use Rattle.image_make.specs.declared.fault.MakeFault.TheVariants as fault
-use Rattle.image_make.specs.Empty.{IsUntold}
+use Rattle.image_make.specs.Empty.{AwaitsSuperblock}
 use Rattle.image_make.specs.Outcome.{IsBlankOrEmpty, IsEmptyImage}
 use Rattle.thin_run.specs.declared.types.Status.{Status}
 use Rattle.thin_run.specs.declared.types.Status.TheVariants as status
@@ -42,20 +42,20 @@ EndsMake status.NoMemory = ⊤
 
 -- A disk was created for an image, with so many faults then, and now it has these cells, sectors and faults. Where the run ended well, its one image is the
 -- empty one. Each image that a stop may leave has no superblock, or is that one.
-pub record IsMaking (told : Bool) (g : Geometry) (cells : List Cell) (sectors before after : ℕ) (ended : Status) : Type 0 where
+pub record IsMaking (known : Bool) (g : Geometry) (cells : List Cell) (sectors before after : ℕ) (ended : Status) : Type 0 where
   pub size : sectors ≡ sectors_of g
-  pub made : ended ≡ status.Good → IsTrue told → HasOneImage cells × IsEmptyImage g (as_read cells)
-  pub wherever : IsTrue told → (image : List Sector) → IsImage cells image → IsBlankOrEmpty g image
+  pub made : ended ≡ status.Good → IsTrue known → HasOneImage cells × IsEmptyImage g (as_read cells)
+  pub wherever : IsTrue known → (image : List Sector) → IsImage cells image → IsBlankOrEmpty g image
   pub write_fault : ended ≡ status.WriteFault → Rose before after
   pub flush_fault : ended ≡ status.FlushFault → Rose before after
-  pub read_back : ended ≡ status.FlushFault → IsTrue told → IsUntold g (as_read cells) ⊎ IsEmptyImage g (as_read cells)
+  pub read_back : ended ≡ status.FlushFault → IsTrue known → AwaitsSuperblock g (as_read cells) ⊎ IsEmptyImage g (as_read cells)
   pub complete : (ended ≡ status.WriteFault) ⊎ ((ended ≡ status.FlushFault) ⊎ Yields ended status.Good)
 
 -- What a make leaves: where nothing was given, the image could not be created. Else one disk was created, and made.
 abbrev pub Makes : {D : Type 0} → Bool → (D → List Cell) → (D → ℕ) → (D → ℕ) → List ℕ → Geometry → List Given → List Given → Option D → Status → Type 0
-Makes told cells sectors faults path g old new disk ended =
+Makes known cells sectors faults path g old new disk ended =
     MatchOption disk ((new ≡ old) × Yields ended status.OpenFault)
-    (λ d. (count : ℕ) × (new ≡ old ++ created path count ∷ []) × IsMaking told g (cells d) (sectors d) count (faults d) ended)
+    (λ d. (count : ℕ) × (new ≡ old ++ created path count ∷ []) × IsMaking known g (cells d) (sectors d) count (faults d) ended)
 
 -- the disk that was created in this call has failed in it
 abbrev pub FailedInMake : {D : Type 0} → (D → ℕ) → List (String Global) → List Given → List Given → Option D → Type 0

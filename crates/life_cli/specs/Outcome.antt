@@ -47,9 +47,9 @@ IsWritten before after lines own status.WriteFault = Appends before after (outpu
 IsWritten before after lines own status.FlushFault = Appends before after (output_of lines status.FlushFault)
 
 -- what a script holds, where the source tells its bytes
-abbrev pub WhereTold : Option (List ℕ) → (List ℕ → Type 0) → Type 0
-WhereTold None P = ⊤
-WhereTold (Some bytes) P = P bytes
+abbrev pub WhereKnown : Option (List ℕ) → (List ℕ → Type 0) → Type 0
+WhereKnown None P = ⊤
+WhereKnown (Some bytes) P = P bytes
 
 -- a script within the grammar, and not too long
 pub record IsReadable (bytes : List ℕ) : Type 0 where
@@ -65,8 +65,8 @@ pub record IsOutsideAt (bytes : List ℕ) (line : ℕ) : Type 0 where
 abbrev pub RefusesScript : Option (List ℕ) → ℕ → ℕ → Status → Type 0
 RefusesScript script before after status.Good = ⊥
 RefusesScript script before after status.Usage = ⊥
-RefusesScript script before after (status.ScriptFault line rule) = (rule ≡ 0) × WhereTold script (λ bytes. IsOutsideAt bytes line)
-RefusesScript script before after status.ScriptTooLong = WhereTold script (λ bytes. MAX_SCRIPT_BYTES < length bytes)
+RefusesScript script before after (status.ScriptFault line rule) = (rule ≡ 0) × WhereKnown script (λ bytes. IsOutsideAt bytes line)
+RefusesScript script before after status.ScriptTooLong = WhereKnown script (λ bytes. MAX_SCRIPT_BYTES < length bytes)
 RefusesScript script before after status.OpenFault = ⊥
 RefusesScript script before after status.SourceFault = Rose before after
 RefusesScript script before after status.SinkFault = ⊥
@@ -76,11 +76,11 @@ RefusesScript script before after status.NoMemory = ⊤
 
 -- when each status comes of a run over a path, by the counts of the source and of the images before and after
 abbrev pub EndsAs : Option (List ℕ) → ℕ → ℕ → ℕ → ℕ → Status → Type 0
-EndsAs script source_before source_after images_before images_after status.Good = WhereTold script IsReadable
+EndsAs script source_before source_after images_before images_after status.Good = WhereKnown script IsReadable
 EndsAs script source_before source_after images_before images_after status.Usage = ⊥
-EndsAs script source_before source_after images_before images_after (status.ScriptFault line rule) = (rule ≡ 0) × WhereTold script (λ bytes. IsOutsideAt bytes line)
-EndsAs script source_before source_after images_before images_after status.ScriptTooLong = WhereTold script (λ bytes. MAX_SCRIPT_BYTES < length bytes)
-EndsAs script source_before source_after images_before images_after status.OpenFault = Rose images_before images_after × WhereTold script IsReadable
+EndsAs script source_before source_after images_before images_after (status.ScriptFault line rule) = (rule ≡ 0) × WhereKnown script (λ bytes. IsOutsideAt bytes line)
+EndsAs script source_before source_after images_before images_after status.ScriptTooLong = WhereKnown script (λ bytes. MAX_SCRIPT_BYTES < length bytes)
+EndsAs script source_before source_after images_before images_after status.OpenFault = Rose images_before images_after × WhereKnown script IsReadable
 EndsAs script source_before source_after images_before images_after status.SourceFault = Rose source_before source_after
 EndsAs script source_before source_after images_before images_after status.SinkFault = ⊥
 EndsAs script source_before source_after images_before images_after status.WriteFault = ⊥
@@ -88,9 +88,9 @@ EndsAs script source_before source_after images_before images_after status.Flush
 EndsAs script source_before source_after images_before images_after status.NoMemory = ⊤
 
 -- an image that stands at a path, of a kind of disk that tells what it holds
-abbrev pub image_told : Bool → Option (List Sector) → Option (List Sector)
-image_told true image = image
-image_told false image = None
+abbrev pub image_known : Bool → Option (List Sector) → Option (List Sector)
+image_known true image = image
+image_known false image = None
 
 -- what a run leaves that read no script, or was given no disk
 pub record IsEarly (mounts : List MountRecord) (said : List Said) : Type 0 where
@@ -99,7 +99,7 @@ pub record IsEarly (mounts : List MountRecord) (said : List Said) : Type 0 where
 
 -- usage comes exactly where the words are in no form
 pub record IsUsage (words : List (String Global)) (ended : Status) : Type 0 where
-  pub told : ended ≡ status.Usage → IsNoForm words
+  pub named : ended ≡ status.Usage → IsNoForm words
   pub exact : IsNoForm words → Yields ended status.Usage
 
 -- the status is this one, unless the source or the sink failed or memory lacked
@@ -108,12 +108,12 @@ YieldsRead ended expected = (ended ≡ status.SourceFault) ⊎ Yields ended expe
 
 -- a script fault comes exactly where a line of a script that is not too long is outside the grammar, and names the first
 pub record FaultsExactly (bytes : List ℕ) (ended : Status) : Type 0 where
-  pub told : (line rule : ℕ) → ended ≡ status.ScriptFault line rule → (rule ≡ 0) × IsOutsideAt bytes line
+  pub named : (line rule : ℕ) → ended ≡ status.ScriptFault line rule → (rule ≡ 0) × IsOutsideAt bytes line
   pub exact : (line : ℕ) → IsOutsideAt bytes line → YieldsRead ended (status.ScriptFault line 0)
 
 -- a script is too long exactly where it has more bytes than a script may have
 pub record IsTooLongExactly (bytes : List ℕ) (ended : Status) : Type 0 where
-  pub told : ended ≡ status.ScriptTooLong → MAX_SCRIPT_BYTES < length bytes
+  pub named : ended ≡ status.ScriptTooLong → MAX_SCRIPT_BYTES < length bytes
   pub exact : MAX_SCRIPT_BYTES < length bytes → YieldsRead ended status.ScriptTooLong
 
 -- how a run over a script in the grammar may end

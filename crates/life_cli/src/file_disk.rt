@@ -1,4 +1,4 @@
-// Disks that are files. Of what a file holds, nothing is told.
+// Disks that are files. Of what a file holds, nothing is known.
 
 ghost use Rattle.std.specs.Prelude.{◌≡◌, ◌<◌, ◌*◌, ◌^◌, ◌++◌, ◌∷◌, [], IfOk, OnOk, OnErr, string_bytes};
 ghost use Rattle.life_limits.specs.declared.TheConstants.{SECTOR_BYTES};
@@ -50,9 +50,9 @@ impl FileDisk {
 
 impl Disk for FileDisk {
     ghost use Rattle.std.specs.Prelude.{false, [], ◌≡◌, ⊤};
-    ghost use Rattle.life_cli.specs.FileDisk.{untold};
+    ghost use Rattle.life_cli.specs.FileDisk.{unknown};
 
-    ghost told = { false };
+    ghost known = { false };
 
     ghost sector_count = { λ disk. disk.sectors };
 
@@ -93,11 +93,11 @@ impl Disk for FileDisk {
         }
     }
 
-    ghost cells_fit = { λ told. untold told };
+    ghost cells_fit = { λ known. unknown known };
 
-    ghost counts_now = { λ told. untold told };
+    ghost counts_now = { λ known. unknown known };
 
-    ghost only_now = { λ told. untold told };
+    ghost only_now = { λ known. unknown known };
 }
 
 /// A file that was given as a disk.

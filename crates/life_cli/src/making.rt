@@ -32,9 +32,9 @@ fn status_of(made: Result<(), MakeFault>) -> Status
 fn make_on<D: Disk>(alloc: Global, mut disk: D, g: &Geometry) -> Ended<D>
     requires shape { IsGeometry g.now }
     requires size { D.sector_count disk ≡ sectors_of g.now }
-    requires blank { IsTrue D.told → D.cells disk ≡ settled_as (replicate (D.sector_count disk) zero_sector) }
+    requires blank { IsTrue D.known → D.cells disk ≡ settled_as (replicate (D.sector_count disk) zero_sector) }
     ensures disk { IsSome result.disk }
-    ensures making { IfSome result.disk (λ after. IsMaking D.told g.now (D.cells after) (D.sector_count after) (D.fault_count disk) (D.fault_count after) result.status) }
+    ensures making { IfSome result.disk (λ after. IsMaking D.known g.now (D.cells after) (D.sector_count after) (D.fault_count disk) (D.fault_count after) result.status) }
     ensures early { IsEarly result.mounts.items result.said.items }
     ensures ends { EndsMake result.status }
 {
@@ -55,7 +55,7 @@ pub(crate) fn run_make<I: Images>(
     images: &mut I,
 ) -> Ended<I::Disk>
     requires { IsGeometry g.now }
-    ensures makes { Makes I.Disk.told I.Disk.cells I.Disk.sector_count I.Disk.fault_count path.now g.now (I.given images.old) (I.given images.new)
+    ensures makes { Makes I.Disk.known I.Disk.cells I.Disk.sector_count I.Disk.fault_count path.now g.now (I.given images.old) (I.given images.new)
         result.disk result.status }
     ensures early { IsEarly result.mounts.items result.said.items }
     ensures ends { EndsMake result.status }

@@ -13,10 +13,10 @@ ghost use Rattle.life_cli.specs.Input.{Takes, TakesAtMost};
 ghost use Rattle.geometry.specs.declared.shape.Geometry.{Geometry};
 ghost use Rattle.life_cli.specs.Form.{IsMake, IsNoForm, IsSteps};
 ghost use Rattle.life_cli.specs.Making.{FailedInMake, IsGiven, Makes, sectors_of};
-ghost use Rattle.life_cli.specs.Outcome.{IsScript, IsReadable, WhereTold, RefusesScript, Replied, EndsAs, image_told, IsEarly, IsWritten, IsUsage, Yields, FaultsExactly, IsTooLongExactly, CompletesAs};
+ghost use Rattle.life_cli.specs.Outcome.{IsScript, IsReadable, WhereKnown, RefusesScript, Replied, EndsAs, image_known, IsEarly, IsWritten, IsUsage, Yields, FaultsExactly, IsTooLongExactly, CompletesAs};
 ghost use Rattle.life_cli.specs.Texts.{make_lines, run_lines};
-ghost use Rattle.thin_run.specs.Wherever.{LeftWhereTold};
-ghost use Rattle.thin_run.specs.Outcome.{AnswersAll, IsLegalOver, IsLogged, IsFirst, Caused, FitWhereTold, where_told, IsRunStatus};
+ghost use Rattle.thin_run.specs.Wherever.{LeftWhereKnown};
+ghost use Rattle.thin_run.specs.Outcome.{AnswersAll, IsLegalOver, IsLogged, IsFirst, Caused, FitWhereKnown, where_known, IsRunStatus};
 ghost use Rattle.thin_run.specs.Ending.{stories_of};
 ghost use Rattle.thin_run.specs.declared.types.Status.{Status};
 ghost use Rattle.thin_run.specs.declared.types.Status.TheVariants as status;
@@ -34,7 +34,7 @@ use thin_run::{Command, Ended, Status, run_over};
 /// The commands of the script that the source has, or why there are none.
 fn read_commands<S: Source>(alloc: Global, script: &mut S) -> Result<Vec<Command>, Status>
     ensures read { IfOk result (λ commands. IsScript (S.bytes_left script.old) commands.items) }
-    ensures readable { OnOk result (WhereTold (S.bytes_left script.old) IsReadable) }
+    ensures readable { OnOk result (WhereKnown (S.bytes_left script.old) IsReadable) }
     ensures end { OnOk result (IsAtEnd (S.bytes_left script.new)) }
     ensures refused { IfErr result (RefusesScript (S.bytes_left script.old) (S.fault_count script.old) (S.fault_count script.new)) }
     ensures taken { TakesAtMost (MAX_SCRIPT_BYTES + 1) (S.bytes_left script.old) (S.bytes_left script.new) }
@@ -67,11 +67,11 @@ fn run_steps<I: Images, S: Source>(
     ensures end { result.status ≡ status.Good → IsAtEnd (S.bytes_left script.new) }
     ensures taken { TakesAtMost (MAX_SCRIPT_BYTES + 1) (S.bytes_left script.old) (S.bytes_left script.new) }
     ensures one_more { result.status ≡ status.ScriptTooLong → Takes (MAX_SCRIPT_BYTES + 1) (S.bytes_left script.old) (S.bytes_left script.new) }
-    ensures legal { AllByRecursion (IsLegalOver (image_told I.Disk.told (I.image_at images.old path.now))) result.mounts.items }
-    ensures damaged { FitWhereTold (image_told I.Disk.told (I.image_at images.old path.now)) result.said.items }
-    ensures log { IfSome result.disk (λ disk. AllByRecursion (IsLogged (image_told I.Disk.told (I.image_at images.old path.now)) (ring_of (I.Disk.sector_count disk))) result.mounts.items) }
+    ensures legal { AllByRecursion (IsLegalOver (image_known I.Disk.known (I.image_at images.old path.now))) result.mounts.items }
+    ensures damaged { FitWhereKnown (image_known I.Disk.known (I.image_at images.old path.now)) result.said.items }
+    ensures log { IfSome result.disk (λ disk. AllByRecursion (IsLogged (image_known I.Disk.known (I.image_at images.old path.now)) (ring_of (I.Disk.sector_count disk))) result.mounts.items) }
     ensures first { AllByRecursion IsFirst result.mounts.items }
-    ensures wherever { IfSome result.disk (λ disk. LeftWhereTold (image_told I.Disk.told (I.image_at images.old path.now)) result.mounts.items (I.Disk.cells disk)) }
+    ensures wherever { IfSome result.disk (λ disk. LeftWhereKnown (image_known I.Disk.known (I.image_at images.old path.now)) result.mounts.items (I.Disk.cells disk)) }
     ensures given { MatchOption result.disk ((I.given images.new ≡ I.given images.old) × IsEarly result.mounts.items result.said.items)
         (λ disk. (count : ℕ) × (I.given images.new ≡ I.given images.old ++ attached path.now count ∷ [])
         × Caused count (I.Disk.fault_count disk) result.said.items result.mounts.items) }
@@ -108,38 +108,38 @@ pub fn top<I: Images, S: Source, K: Sink>(
 
     // The entries of each mount are one legal history of the table that the image stands for.
     ensures legal { (path : List ℕ) → IsSteps words.now path
-        → AllByRecursion (IsLegalOver (image_told I.Disk.told (I.image_at images.old path))) result.mounts.items }
+        → AllByRecursion (IsLegalOver (image_known I.Disk.known (I.image_at images.old path))) result.mounts.items }
     ensures first { AllByRecursion IsFirst result.mounts.items }
     ensures log { (path : List ℕ) → IsSteps words.now path → IfSome result.disk (λ disk. AllByRecursion
-        (IsLogged (image_told I.Disk.told (I.image_at images.old path)) (ring_of (I.Disk.sector_count disk))) result.mounts.items) }
+        (IsLogged (image_known I.Disk.known (I.image_at images.old path)) (ring_of (I.Disk.sector_count disk))) result.mounts.items) }
 
     // Wherever the device stops, the image that is left stands for the table after a prefix of the mount's changes that
     // holds each acknowledged one. Where there was no mount, it is the first image.
     ensures wherever { (path : List ℕ) → IsSteps words.now path → IfSome result.disk (λ disk.
-        LeftWhereTold (image_told I.Disk.told (I.image_at images.old path)) result.mounts.items (I.Disk.cells disk)) }
+        LeftWhereKnown (image_known I.Disk.known (I.image_at images.old path)) result.mounts.items (I.Disk.cells disk)) }
 
     // A mount is damaged exactly where the image is not thin. All other faults are the disk's.
     ensures damaged { (path : List ℕ) → IsSteps words.now path
-        → FitWhereTold (image_told I.Disk.told (I.image_at images.old path)) result.said.items }
+        → FitWhereKnown (image_known I.Disk.known (I.image_at images.old path)) result.said.items }
     ensures causes { (path : List ℕ) → IsSteps words.now path → IfSome result.disk (λ disk. (count : ℕ) × (I.given images.new ≡ I.given images.old ++ attached path count ∷ [])
         × Caused count (I.Disk.fault_count disk) result.said.items result.mounts.items) }
 
     // A disk was created and made, or none could be created. What stands there when it ends well is the image without a file.
-    ensures makes { (path : List ℕ) (g : Geometry) → IsMake words.now path g → Makes I.Disk.told I.Disk.cells I.Disk.sector_count I.Disk.fault_count path g
+    ensures makes { (path : List ℕ) (g : Geometry) → IsMake words.now path g → Makes I.Disk.known I.Disk.cells I.Disk.sector_count I.Disk.fault_count path g
         (I.given images.old) (I.given images.new) result.disk result.status }
 
     // What is written tells the run's own status, in whose place another comes where the sink fails or memory lacks.
     ensures output { ((path : List ℕ) (g : Geometry) → IsMake words.now path g → ⊥) → (own : Status) × Yields result.status own
         × IsWritten (K.bytes_held out.old) (K.bytes_held out.new) (run_lines result.mounts.items result.said.items) own result.status }
     ensures made_output { (path : List ℕ) (g : Geometry) → IsMake words.now path g → (own : Status) × Yields result.status own
-        × Makes I.Disk.told I.Disk.cells I.Disk.sector_count I.Disk.fault_count path g (I.given images.old) (I.given images.new) result.disk own
+        × Makes I.Disk.known I.Disk.cells I.Disk.sector_count I.Disk.fault_count path g (I.given images.old) (I.given images.new) result.disk own
         × IsWritten (K.bytes_held out.old) (K.bytes_held out.new) (make_lines (sectors_of g)) own result.status }
 
     // When each status comes.
     ensures usage { IsUsage words.now result.status }
-    ensures script_fault { (path : List ℕ) → IsSteps words.now path → WhereTold (S.bytes_left script.old) (λ bytes. FaultsExactly bytes result.status) }
-    ensures script_too_long { (path : List ℕ) → IsSteps words.now path → WhereTold (S.bytes_left script.old) (λ bytes. IsTooLongExactly bytes result.status) }
-    ensures complete { (path : List ℕ) → IsSteps words.now path → WhereTold (S.bytes_left script.old) (λ bytes. IsReadable bytes → CompletesAs result.status) }
+    ensures script_fault { (path : List ℕ) → IsSteps words.now path → WhereKnown (S.bytes_left script.old) (λ bytes. FaultsExactly bytes result.status) }
+    ensures script_too_long { (path : List ℕ) → IsSteps words.now path → WhereKnown (S.bytes_left script.old) (λ bytes. IsTooLongExactly bytes result.status) }
+    ensures complete { (path : List ℕ) → IsSteps words.now path → WhereKnown (S.bytes_left script.old) (λ bytes. IsReadable bytes → CompletesAs result.status) }
     ensures source_fault { result.status ≡ status.SourceFault → Rose (S.fault_count script.old) (S.fault_count script.new) }
     ensures open_fault { result.status ≡ status.OpenFault → Rose (I.fault_count images.old) (I.fault_count images.new) }
     ensures write_fault { result.status ≡ status.WriteFault → FailedInMake I.Disk.fault_count words.now (I.given images.old) (I.given images.new) result.disk }

@@ -13,13 +13,13 @@ use Rattle.log_store.specs.State.{state_of}
 use Rattle.log_store.specs.Steps.{Goes, IsStore}
 use Rattle.log_store.proofs.Going.{moves_none}
 
-pub falls : {D : Type 0} (told : Bool) (cells : D → List Cell) (count moment : D → ℕ) (left : D → ℕ → List Sector → Type 0) (old : Store D) (disk : D) (sectors : Vec Sector Global) (fault : ℕ)
-    → IsStore told cells count old → count disk ≡ count old.disk → length sectors.items ≡ 135
-    → (IsTrue told → base_of (state_of old) (cells disk) ≡ base_of (state_of old) (cells old.disk))
-    → (IsTrue told → (image : List Sector) → IsImage (cells disk) image → ReplaysTo (state_of old) (cells old.disk) image)
-    → (IsTrue told → Elapses (moment old.disk) (moment disk) (left old.disk) (left disk) (ReplaysTo (state_of old) (cells old.disk)))
-    → Goes told cells count moment left old (record old { disk = disk; sectors = sectors; stage = Down fault; job = Idle })
-falls told cells count moment left old disk sectors fault store size long base images moments = record {
+pub falls : {D : Type 0} (known : Bool) (cells : D → List Cell) (count moment : D → ℕ) (left : D → ℕ → List Sector → Type 0) (old : Store D) (disk : D) (sectors : Vec Sector Global) (fault : ℕ)
+    → IsStore known cells count old → count disk ≡ count old.disk → length sectors.items ≡ 135
+    → (IsTrue known → base_of (state_of old) (cells disk) ≡ base_of (state_of old) (cells old.disk))
+    → (IsTrue known → (image : List Sector) → IsImage (cells disk) image → ReplaysTo (state_of old) (cells old.disk) image)
+    → (IsTrue known → Elapses (moment old.disk) (moment disk) (left old.disk) (left disk) (ReplaysTo (state_of old) (cells old.disk)))
+    → Goes known cells count moment left old (record old { disk = disk; sectors = sectors; stage = Down fault; job = Idle })
+falls known cells count moment left old disk sectors fault store size long base images moments = record {
   store = record {
     sound = record {
       place = omega (arith, store.sound.place);
@@ -39,6 +39,6 @@ falls told cells count moment left old disk sectors fault store size long base i
     holds = λ tells image is.
         subst (λ (b : List Sector). Replays old.anchor old.ring (old.positions.head + MAX_RECORD_SECTORS) b old.queue.items old.durable image) (sym (base tells)) (images tells image is);
   };
-  moves = moves_none told (state_of old) _ (cells old.disk) (cells disk) refl refl refl refl (omega arith) base;
+  moves = moves_none known (state_of old) _ (cells old.disk) (cells disk) refl refl refl refl (omega arith) base;
   moments = moments;
 }

@@ -42,9 +42,9 @@ leaves_both a b d past mid since P R Q wider weaker first second = record {
 }
 
 -- no commit became durable
-pub moves_none : (told : Bool) (old new : State) (before after : List Cell) → new.anchor ≡ old.anchor → new.ring ≡ old.ring → new.list ≡ old.list
-    → new.durable ≡ old.durable → old.head ≤ new.head → (IsTrue told → base_of new after ≡ base_of old before) → Moves told old new before after
-moves_none told old new before after anchor ring list durable head base = record {
+pub moves_none : (known : Bool) (old new : State) (before after : List Cell) → new.anchor ≡ old.anchor → new.ring ≡ old.ring → new.list ≡ old.list
+    → new.durable ≡ old.durable → old.head ≤ new.head → (IsTrue known → base_of new after ≡ base_of old before) → Moves known old new before after
+moves_none known old new before after anchor ring list durable head base = record {
   anchor = anchor;
   ring = ring;
   head = head;
@@ -65,8 +65,8 @@ take-both n m xs le =
     ∙ ap (λ (l : List Commit). take n xs ++ l) (drop-take n m xs)
 
 -- one step after another
-pub moves_both : (told : Bool) (a b d : State) (first second third : List Cell) → Moves told a b first second → Moves told b d second third → Moves told a d first third
-moves_both told a b d first second third one two = record {
+pub moves_both : (known : Bool) (a b d : State) (first second third : List Cell) → Moves known a b first second → Moves known b d second third → Moves known a d first third
+moves_both known a b d first second third one two = record {
   anchor = two.anchor ∙ one.anchor;
   ring = two.ring ∙ one.ring;
   head = omega (arith, one.head, two.head);
@@ -83,9 +83,9 @@ moves_both told a b d first second third one two = record {
 }
 
 -- what replays to a later base replays to the earlier one
-pub replays_earlier : (told : Bool) (head : ℕ) (a b : State) (first second : List Cell) (image : List Sector) → IsTrue told → Moves told a b first second
+pub replays_earlier : (known : Bool) (head : ℕ) (a b : State) (first second : List Cell) (image : List Sector) → IsTrue known → Moves known a b first second
     → ReplaysUpTo head b second image → ReplaysUpTo head a first image
-replays_earlier told head a b first second image tells moves is = record {
+replays_earlier known head a b first second image tells moves is = record {
   log = is.log;
   count = moves.count + is.count;
   within = omega (arith, moves.within, is.within, ap length moves.list, length-drop moves.count a.list);

@@ -133,10 +133,10 @@ ends_home stage job s images is free ends =
 -- ---- what is armed
 
 -- one call
-pub armed_made : {D : Type 0} (told : Bool) (cells : D → List Cell) (arming : D → Arming) (call : DeviceCall) (result : Result Progress StoreFault) (old new : D)
-    → Made told cells arming call result old new → IsAfterWrites (arming old) (arming new)
-armed_made told cells arming none result old new made = (0, ap arming made)
-armed_made told cells arming (write at pieces) (Ok progress) old new made = (1, made.1)
-armed_made told cells arming (write at pieces) (Err fault) old new made = (1, made.1)
-armed_made told cells arming flush (Ok progress) old new made = (0, made.1)
-armed_made told cells arming flush (Err fault) old new made = (0, made.1)
+pub armed_made : {D : Type 0} (known : Bool) (cells : D → List Cell) (arming : D → Arming) (call : DeviceCall) (result : Result Progress StoreFault) (old new : D)
+    → Made known cells arming call result old new → IsAfterWrites (arming old) (arming new)
+armed_made known cells arming none result old new made = (0, ap arming made)
+armed_made known cells arming (write at pieces) (Ok progress) old new made = (1, made.1)
+armed_made known cells arming (write at pieces) (Err fault) old new made = (1, made.1)
+armed_made known cells arming flush (Ok progress) old new made = (0, made.1)
+armed_made known cells arming flush (Err fault) old new made = (0, made.1)

@@ -15,13 +15,13 @@ use Rattle.log_store.proofs.Going.{moves_none}
 use Rattle.log_store.proofs.Sound.{held_of, job_free, rest_of, stage_free}
 
 -- what was written home is flushed
-pub lands_home : {D : Type 0} (told : Bool) (cells : D → List Cell) (count moment : D → ℕ) (left : D → ℕ → List Sector → Type 0) (old : Store D) (disk : D) (job : Job)
-    → IsStore told cells count old → JobAsks job old.queue.items old.batch old.ring old.positions.head old.positions.tail → old.stage ≡ Free → count disk ≡ count old.disk
-    → (IsTrue told → cells disk ≡ flushed (cells old.disk))
+pub lands_home : {D : Type 0} (known : Bool) (cells : D → List Cell) (count moment : D → ℕ) (left : D → ℕ → List Sector → Type 0) (old : Store D) (disk : D) (job : Job)
+    → IsStore known cells count old → JobAsks job old.queue.items old.batch old.ring old.positions.head old.positions.tail → old.stage ≡ Free → count disk ≡ count old.disk
+    → (IsTrue known → cells disk ≡ flushed (cells old.disk))
     → ((s : State) (cs : List Cell) → AtRest s cs → AtRest (flushed_home s) (flushed cs))
-    → (IsTrue told → Elapses (moment old.disk) (moment disk) (left old.disk) (left disk) (ReplaysTo (state_of old) (cells old.disk)))
-    → Goes told cells count moment left old (record old { disk = disk; unflushed = false; job = job })
-lands_home told cells count moment left old disk job store asks free size after law moments = record {
+    → (IsTrue known → Elapses (moment old.disk) (moment disk) (left old.disk) (left disk) (ReplaysTo (state_of old) (cells old.disk)))
+    → Goes known cells count moment left old (record old { disk = disk; unflushed = false; job = job })
+lands_home known cells count moment left old disk job store asks free size after law moments = record {
   store = record {
     sound = record {
       place = omega (arith, store.sound.place);
@@ -42,7 +42,7 @@ lands_home told cells count moment left old disk job store asks free size after 
         (subst (λ (cs : List Cell). AtRest (flushed_home (state_of old)) cs) (sym (after tells))
         (law (state_of old) (cells old.disk) (rest_of old.stage (state_of old) (cells old.disk) free (store.holds tells))));
   };
-  moves = moves_none told (state_of old) _ (cells old.disk) (cells disk) refl refl refl refl (omega arith) (λ tells.
+  moves = moves_none known (state_of old) _ (cells old.disk) (cells disk) refl refl refl refl (omega arith) (λ tells.
       ap (base_of (state_of old)) (after tells) ∙ base-flushed (state_of old) (cells old.disk));
   moments = moments;
 }

@@ -34,15 +34,15 @@ rerest s list batch taken stage cells rest = record {
 }
 
 -- one way after another
-pub goes_both : {D : Type 0} (told : Bool) (cells : D → List Cell) (count moment : D → ℕ) (left : D → ℕ → List Sector → Type 0) (a b d : Store D)
-    → Goes told cells count moment left a b → Goes told cells count moment left b d → Goes told cells count moment left a d
-goes_both told cells count moment left a b d one two = record {
+pub goes_both : {D : Type 0} (known : Bool) (cells : D → List Cell) (count moment : D → ℕ) (left : D → ℕ → List Sector → Type 0) (a b d : Store D)
+    → Goes known cells count moment left a b → Goes known cells count moment left b d → Goes known cells count moment left a d
+goes_both known cells count moment left a b d one two = record {
   store = two.store;
-  moves = moves_both told (state_of a) (state_of b) (state_of d) (cells a.disk) (cells b.disk) (cells d.disk) one.moves two.moves;
+  moves = moves_both known (state_of a) (state_of b) (state_of d) (cells a.disk) (cells b.disk) (cells d.disk) one.moves two.moves;
   moments = λ tells. leaves_both (moment a.disk) (moment b.disk) (moment d.disk) (left a.disk) (left b.disk) (left d.disk)
       (ReplaysUpTo d.positions.head (state_of a) (cells a.disk)) (ReplaysUpTo b.positions.head (state_of a) (cells a.disk)) (ReplaysUpTo d.positions.head (state_of b) (cells b.disk))
       (λ image is. replays_wider b.positions.head d.positions.head (state_of a) (cells a.disk) image two.moves.head is)
-      (λ image is. replays_earlier told d.positions.head (state_of a) (state_of b) (cells a.disk) (cells b.disk) image tells one.moves is)
+      (λ image is. replays_earlier known d.positions.head (state_of a) (state_of b) (cells a.disk) (cells b.disk) image tells one.moves is)
       (one.moments tells) (two.moments tells);
 }
 
@@ -55,9 +55,9 @@ any_job Record job fits = absurd fits
 any_job Cover job fits = absurd fits
 
 -- another job
-pub goes_job : {D : Type 0} (told : Bool) (cells : D → List Cell) (count moment : D → ℕ) (left : D → ℕ → List Sector → Type 0) (old : Store D) (job : Job)
-    → IsStore told cells count old → JobFits old.stage job → JobAsks job old.queue.items old.batch old.ring old.positions.head old.positions.tail → Goes told cells count moment left old (record old { job = job })
-goes_job told cells count moment left old job store fits asks = record {
+pub goes_job : {D : Type 0} (known : Bool) (cells : D → List Cell) (count moment : D → ℕ) (left : D → ℕ → List Sector → Type 0) (old : Store D) (job : Job)
+    → IsStore known cells count old → JobFits old.stage job → JobAsks job old.queue.items old.batch old.ring old.positions.head old.positions.tail → Goes known cells count moment left old (record old { job = job })
+goes_job known cells count moment left old job store fits asks = record {
   store = record {
     sound = record {
       place = store.sound.place;
@@ -76,15 +76,15 @@ goes_job told cells count moment left old job store fits asks = record {
     };
     holds = store.holds;
   };
-  moves = moves_none told (state_of old) (state_of old) (cells old.disk) (cells old.disk) refl refl refl refl (omega arith) (λ tells. refl);
+  moves = moves_none known (state_of old) (state_of old) (cells old.disk) (cells old.disk) refl refl refl refl (omega arith) (λ tells. refl);
   moments = λ tells. leaves_none (moment old.disk) (left old.disk) (ReplaysTo (state_of old) (cells old.disk));
 }
 
 -- another record that is gathered
-pub goes_gathered : {D : Type 0} (told : Bool) (cells : D → List Cell) (count moment : D → ℕ) (left : D → ℕ → List Sector → Type 0) (old : Store D)
-    (batch : List Image) (taken size : ℕ) → IsStore told cells count old → old.stage ≡ Free → JobAsks old.job old.queue.items batch old.ring old.positions.head old.positions.tail
-    → Goes told cells count moment left old (record old { batch = batch; taken = taken; count = size })
-goes_gathered told cells count moment left old batch taken size store free asks = record {
+pub goes_gathered : {D : Type 0} (known : Bool) (cells : D → List Cell) (count moment : D → ℕ) (left : D → ℕ → List Sector → Type 0) (old : Store D)
+    (batch : List Image) (taken size : ℕ) → IsStore known cells count old → old.stage ≡ Free → JobAsks old.job old.queue.items batch old.ring old.positions.head old.positions.tail
+    → Goes known cells count moment left old (record old { batch = batch; taken = taken; count = size })
+goes_gathered known cells count moment left old batch taken size store free asks = record {
   store = record {
     sound = record {
       place = store.sound.place;
@@ -104,19 +104,19 @@ goes_gathered told cells count moment left old batch taken size store free asks 
     holds = λ tells. held_of old.stage _ (cells old.disk) free
         (rerest (state_of old) old.queue.items batch taken old.stage (cells old.disk) (rest_of old.stage (state_of old) (cells old.disk) free (store.holds tells)));
   };
-  moves = moves_none told (state_of old) _ (cells old.disk) (cells old.disk) refl refl refl refl (omega arith) (λ tells. refl);
+  moves = moves_none known (state_of old) _ (cells old.disk) (cells old.disk) refl refl refl refl (omega arith) (λ tells. refl);
   moments = λ tells. leaves_none (moment old.disk) (left old.disk) (ReplaysTo (state_of old) (cells old.disk));
 }
 
 -- a write to the ring that was made
-pub goes_written : {D : Type 0} (told : Bool) (cells : D → List Cell) (count moment : D → ℕ) (left : D → ℕ → List Sector → Type 0) (old : Store D)
-    (disk : D) (sectors : Vec Sector Global) (stage : Stage) → IsStore told cells count old → JobFits stage old.job → count disk ≡ count old.disk → length sectors.items ≡ 135
+pub goes_written : {D : Type 0} (known : Bool) (cells : D → List Cell) (count moment : D → ℕ) (left : D → ℕ → List Sector → Type 0) (old : Store D)
+    (disk : D) (sectors : Vec Sector Global) (stage : Stage) → IsStore known cells count old → JobFits stage old.job → count disk ≡ count old.disk → length sectors.items ≡ 135
     → StageFits stage (record (state_of old) { stage = stage }) sectors.items old.count
-    → (IsTrue told → HoldsAtStage stage (record (state_of old) { stage = stage }) (cells disk))
-    → (IsTrue told → base_of (state_of old) (cells disk) ≡ base_of (state_of old) (cells old.disk))
-    → (IsTrue told → Elapses (moment old.disk) (moment disk) (left old.disk) (left disk) (ReplaysTo (state_of old) (cells old.disk)))
-    → Goes told cells count moment left old (record old { disk = disk; sectors = sectors; stage = stage })
-goes_written told cells count moment left old disk sectors stage store job size long fits holds base moments = record {
+    → (IsTrue known → HoldsAtStage stage (record (state_of old) { stage = stage }) (cells disk))
+    → (IsTrue known → base_of (state_of old) (cells disk) ≡ base_of (state_of old) (cells old.disk))
+    → (IsTrue known → Elapses (moment old.disk) (moment disk) (left old.disk) (left disk) (ReplaysTo (state_of old) (cells old.disk)))
+    → Goes known cells count moment left old (record old { disk = disk; sectors = sectors; stage = stage })
+goes_written known cells count moment left old disk sectors stage store job size long fits holds base moments = record {
   store = record {
     sound = record {
       place = omega (arith, store.sound.place);
@@ -135,7 +135,7 @@ goes_written told cells count moment left old disk sectors stage store job size 
     };
     holds = holds;
   };
-  moves = moves_none told (state_of old) _ (cells old.disk) (cells disk) refl refl refl refl (omega arith) base;
+  moves = moves_none known (state_of old) _ (cells old.disk) (cells disk) refl refl refl refl (omega arith) base;
   moments = moments;
 }
 

@@ -96,12 +96,12 @@ call_of (Err FlushFault) old new was = call_at old.stage was (gathered old new)
 call_of (Err PositionEnd) old new was = none
 call_of (Err (faults.Down fault)) old new was = none
 
--- A disk before and after the call and no other: what it holds, where that is told, and what is armed.
+-- A disk before and after the call and no other: what it holds, where that is known, and what is armed.
 abbrev pub Made : {D : Type 0} → Bool → (D → List Cell) → (D → Arming) → DeviceCall → Result Progress StoreFault → D → D → Type 0
-Made told cells arming none result old new = new ≡ old
-Made told cells arming (write at pieces) (Ok progress) old new =
-    (IsTrue told → cells new ≡ written at pieces (cells old)) × (arming new ≡ after_write (arming old))
-Made told cells arming (write at pieces) (Err fault) old new =
-    (IsTrue told → IsPartlyWritten at pieces (cells old) (cells new)) × (arming new ≡ after_write (arming old))
-Made told cells arming flush (Ok progress) old new = (IsTrue told → cells new ≡ flushed (cells old)) × (arming new ≡ arming old)
-Made told cells arming flush (Err fault) old new = (cells new ≡ cells old) × (arming new ≡ arming old)
+Made known cells arming none result old new = new ≡ old
+Made known cells arming (write at pieces) (Ok progress) old new =
+    (IsTrue known → cells new ≡ written at pieces (cells old)) × (arming new ≡ after_write (arming old))
+Made known cells arming (write at pieces) (Err fault) old new =
+    (IsTrue known → IsPartlyWritten at pieces (cells old) (cells new)) × (arming new ≡ after_write (arming old))
+Made known cells arming flush (Ok progress) old new = (IsTrue known → cells new ≡ flushed (cells old)) × (arming new ≡ arming old)
+Made known cells arming flush (Err fault) old new = (cells new ≡ cells old) × (arming new ≡ arming old)

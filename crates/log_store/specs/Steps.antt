@@ -101,13 +101,13 @@ pub record IsSound {D : Type 0} (sector_count : ℕ) (store : Store D) : Type 0 
   pub asks : JobAsks store.job store.queue.items store.batch store.ring store.positions.head store.positions.tail
 
 -- a store whose fields and whose disk are right
-pub record IsStore {D : Type 0} (told : Bool) (cells : D → List Cell) (sector_count : D → ℕ) (store : Store D) : Type 0 where
+pub record IsStore {D : Type 0} (known : Bool) (cells : D → List Cell) (sector_count : D → ℕ) (store : Store D) : Type 0 where
   pub sound : IsSound (sector_count store.disk) store
-  pub holds : IsTrue told → HoldsState (state_of store) (cells store.disk)
+  pub holds : IsTrue known → HoldsState (state_of store) (cells store.disk)
 
 -- Some first commits of the list became durable: they left the list, the durable number rose by their number, and the
 -- base has their images over it. Where none did, all three stay. The head did not fall.
-pub record Moves (told : Bool) (old new : State) (before after : List Cell) : Type 0 where
+pub record Moves (known : Bool) (old new : State) (before after : List Cell) : Type 0 where
   pub anchor : new.anchor ≡ old.anchor
   pub ring : new.ring ≡ old.ring
   pub head : old.head ≤ new.head
@@ -115,15 +115,15 @@ pub record Moves (told : Bool) (old new : State) (before after : List Cell) : Ty
   pub within : count ≤ length old.list
   pub list : new.list ≡ drop count old.list
   pub durable : new.durable ≡ old.durable + count
-  pub base : IsTrue told → base_of new after ≡ overlaid (base_of old before) (commit_images (take count old.list))
+  pub base : IsTrue known → base_of new after ≡ overlaid (base_of old before) (commit_images (take count old.list))
 
 -- A call of a store went on from one store to another: it is still right, its commits moved in order, and a stop in the
 -- call left nothing but what replays to the base with some first commits of the list over it, with a log that ends not
 -- further behind the head after the call than the longest record reaches.
-pub record Goes {D : Type 0} (told : Bool) (cells : D → List Cell) (sector_count moment : D → ℕ) (left : D → ℕ → List Sector → Type 0) (old new : Store D) : Type 0 where
-  pub store : IsStore told cells sector_count new
-  pub moves : Moves told (state_of old) (state_of new) (cells old.disk) (cells new.disk)
-  pub moments : IsTrue told → Elapses (moment old.disk) (moment new.disk) (left old.disk) (left new.disk)
+pub record Goes {D : Type 0} (known : Bool) (cells : D → List Cell) (sector_count moment : D → ℕ) (left : D → ℕ → List Sector → Type 0) (old new : Store D) : Type 0 where
+  pub store : IsStore known cells sector_count new
+  pub moves : Moves known (state_of old) (state_of new) (cells old.disk) (cells new.disk)
+  pub moments : IsTrue known → Elapses (moment old.disk) (moment new.disk) (left old.disk) (left new.disk)
       (ReplaysUpTo new.positions.head (state_of old) (cells old.disk))
 
 -- a store that begins: nothing is taken, logged or in flight

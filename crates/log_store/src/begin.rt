@@ -35,10 +35,10 @@ pub fn begin_store<D: Disk>(
     requires most_ring { ring ≤ MAX_RING }
     requires position { (ring ≤ position) × (position < MOUNT_LIMIT) }
     requires number { (1 ≤ next_commit) × (next_commit < MOUNT_LIMIT) }
-    requires one { IsTrue D.told → HasOneImage (D.cells disk) }
-    requires anchor { IsTrue D.told → HasAnchor (as_read (D.cells disk)) anchor ring position next_commit }
-    requires below { IsTrue D.told → AreBelow (ring_part anchor ring (as_read (D.cells disk))) position }
-    ensures store { IfOk result (IsStore D.told D.cells D.sector_count) }
+    requires one { IsTrue D.known → HasOneImage (D.cells disk) }
+    requires anchor { IsTrue D.known → HasAnchor (as_read (D.cells disk)) anchor ring position next_commit }
+    requires below { IsTrue D.known → AreBelow (ring_part anchor ring (as_read (D.cells disk))) position }
+    ensures store { IfOk result (IsStore D.known D.cells D.sector_count) }
     ensures start { IfOk result (IsNew disk anchor ring position next_commit) }
     ensures handed_back { IfErr result (λ fault. fault.0 ≡ disk) }
 {

@@ -17,8 +17,8 @@ use disk_model::Disk;
 impl<D: Disk> Store<D> {
     /// Goes on with the job until it ends.
     fn run(&mut self) -> Result<(), StoreFault>
-        requires { IsStore D.told D.cells D.sector_count self.old }
-        ensures goes { Goes D.told D.cells D.sector_count D.moment D.left_since self.old self.new }
+        requires { IsStore D.known D.cells D.sector_count self.old }
+        ensures goes { Goes D.known D.cells D.sector_count D.moment D.left_since self.old self.new }
         ensures idle { self.new.job ≡ Idle }
         ensures done { OnOk result (IsDone self.old.job (state_of self.new)) }
         ensures rises { Rises (covers_of self.old.job) 0 (state_of self.old) (state_of self.new) }
@@ -40,14 +40,14 @@ impl<D: Disk> Store<D> {
 
     /// Makes every taken commit durable, and answers the greatest commit number. No job may be going.
     pub fn force(&mut self) -> Result<u64, StoreFault>
-        requires store { IsStore D.told D.cells D.sector_count self.old }
+        requires store { IsStore D.known D.cells D.sector_count self.old }
         requires idle { self.old.job ≡ Idle }
-        ensures goes { Goes D.told D.cells D.sector_count D.moment D.left_since self.old self.new }
+        ensures goes { Goes D.known D.cells D.sector_count D.moment D.left_since self.old self.new }
         ensures idle { self.new.job ≡ Idle }
         ensures all { OnOk result (self.new.queue.items ≡ []) }
         ensures number { IfOk result (λ number. number ≡ self.new.durable) }
         // What a stop leaves from then on has every commit: its next commit number is the answer and one.
-        ensures acknowledged { IsTrue D.told → OnOk result ((image : List Sector) → IsImage (D.cells self.new.disk) image
+        ensures acknowledged { IsTrue D.known → OnOk result ((image : List Sector) → IsImage (D.cells self.new.disk) image
             → ReplaysTo (state_of self.new) (D.cells self.new.disk) image) }
         // A record has at most 135 sectors, and a force writes at most one cover in front of it.
         ensures rises { Rises 0 0 (state_of self.old) (state_of self.new) }
@@ -63,9 +63,9 @@ impl<D: Disk> Store<D> {
 
     /// Writes every logged sector home, and flushes where it wrote one. No job may be going.
     pub fn write_back(&mut self) -> Result<(), StoreFault>
-        requires store { IsStore D.told D.cells D.sector_count self.old }
+        requires store { IsStore D.known D.cells D.sector_count self.old }
         requires idle { self.old.job ≡ Idle }
-        ensures goes { Goes D.told D.cells D.sector_count D.moment D.left_since self.old self.new }
+        ensures goes { Goes D.known D.cells D.sector_count D.moment D.left_since self.old self.new }
         ensures idle { self.new.job ≡ Idle }
         ensures home { OnOk result ((self.new.dirty.images ≡ []) × (self.new.unflushed ≡ false)) }
         ensures stays { Stays (state_of self.old) (state_of self.new) }
@@ -80,11 +80,11 @@ impl<D: Disk> Store<D> {
     /// Writes the cover record, flushes it and moves the tail. Every logged sector has to be home and flushed, and
     /// no job may be going.
     pub fn cover(&mut self) -> Result<(), StoreFault>
-        requires store { IsStore D.told D.cells D.sector_count self.old }
+        requires store { IsStore D.known D.cells D.sector_count self.old }
         requires idle { self.old.job ≡ Idle }
         requires home { self.old.dirty.images ≡ [] }
         requires flushed { self.old.unflushed ≡ false }
-        ensures goes { Goes D.told D.cells D.sector_count D.moment D.left_since self.old self.new }
+        ensures goes { Goes D.known D.cells D.sector_count D.moment D.left_since self.old self.new }
         ensures idle { self.new.job ≡ Idle }
         ensures covered { OnOk result (Covered (state_of self.old) (state_of self.new)) }
         ensures failed { OnErr result (Stays (state_of self.old) (state_of self.new)) }
@@ -99,10 +99,10 @@ impl<D: Disk> Store<D> {
 
     /// Begins a job.
     fn begin(&mut self, job: Job)
-        requires store { IsStore D.told D.cells D.sector_count self.old }
+        requires store { IsStore D.known D.cells D.sector_count self.old }
         requires idle { self.old.job ≡ Idle }
         requires asks { JobAsks job self.old.queue.items self.old.batch self.old.ring self.old.positions.head self.old.positions.tail }
-        ensures goes { Goes D.told D.cells D.sector_count D.moment D.left_since self.old self.new }
+        ensures goes { Goes D.known D.cells D.sector_count D.moment D.left_since self.old self.new }
         ensures job { self.new ≡ record self.old { job = job } }
     {
         self.job = job;

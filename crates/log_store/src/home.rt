@@ -14,17 +14,17 @@ use disk_model::Disk;
 impl<D: Disk> Store<D> {
     /// Writes the logged sector with the least home.
     pub(crate) fn write_home(&mut self) -> Result<Progress, StoreFault>
-        requires store { IsStore D.told D.cells D.sector_count self.old }
+        requires store { IsStore D.known D.cells D.sector_count self.old }
         requires stage { self.old.stage ≡ Free }
         requires some { self.old.dirty.images ≢ [] }
         requires job { MovesHome self.old.job }
-        ensures goes { Goes D.told D.cells D.sector_count D.moment D.left_since self.old self.new }
+        ensures goes { Goes D.known D.cells D.sector_count D.moment D.left_since self.old self.new }
         ensures batch { self.new.batch ≡ self.old.batch }
         ensures outcome { IsOutcome result (state_of self.old) (state_of self.new) self.old.job self.new.job (D.fault_count self.old.disk) (D.fault_count self.new.disk) }
         ensures end { EndsExactly result (state_of self.old) (state_of self.new) self.old.job }
         ensures moves { StepMoves result self.old.stage (state_of self.old) (state_of self.new) self.old.job }
         ensures rises { Rises (covers_of self.old.job) (covers_of self.new.job) (state_of self.old) (state_of self.new) }
-        ensures call { Made D.told D.cells D.arming (call_of result (state_of self.old) (state_of self.new) self.old.job) result self.old.disk self.new.disk }
+        ensures call { Made D.known D.cells D.arming (call_of result (state_of self.old) (state_of self.new) self.old.job) result self.old.disk self.new.disk }
     {
         homes();
         let Some(image) = self.dirty.first() else {
@@ -45,18 +45,18 @@ impl<D: Disk> Store<D> {
 
     /// Flushes the sectors that were written home.
     pub(crate) fn flush_home(&mut self) -> Result<Progress, StoreFault>
-        requires store { IsStore D.told D.cells D.sector_count self.old }
+        requires store { IsStore D.known D.cells D.sector_count self.old }
         requires stage { self.old.stage ≡ Free }
         requires none { self.old.dirty.images ≡ [] }
         requires some { IsTrue self.old.unflushed }
         requires job { MovesHome self.old.job }
-        ensures goes { Goes D.told D.cells D.sector_count D.moment D.left_since self.old self.new }
+        ensures goes { Goes D.known D.cells D.sector_count D.moment D.left_since self.old self.new }
         ensures batch { self.new.batch ≡ self.old.batch }
         ensures outcome { IsOutcome result (state_of self.old) (state_of self.new) self.old.job self.new.job (D.fault_count self.old.disk) (D.fault_count self.new.disk) }
         ensures end { EndsExactly result (state_of self.old) (state_of self.new) self.old.job }
         ensures moves { StepMoves result self.old.stage (state_of self.old) (state_of self.new) self.old.job }
         ensures rises { Rises (covers_of self.old.job) (covers_of self.new.job) (state_of self.old) (state_of self.new) }
-        ensures call { Made D.told D.cells D.arming (call_of result (state_of self.old) (state_of self.new) self.old.job) result self.old.disk self.new.disk }
+        ensures call { Made D.known D.cells D.arming (call_of result (state_of self.old) (state_of self.new) self.old.job) result self.old.disk self.new.disk }
     {
         homes();
         match self.disk.flush() {

@@ -14,9 +14,9 @@ use disk_model::Disk;
 impl<D: Disk> Store<D> {
     /// Begins the job that makes every commit durable. No job may be going.
     pub fn begin_force(&mut self)
-        requires store { IsStore D.told D.cells D.sector_count self.old }
+        requires store { IsStore D.known D.cells D.sector_count self.old }
         requires idle { self.old.job ≡ Idle }
-        ensures store { IsStore D.told D.cells D.sector_count self.new }
+        ensures store { IsStore D.known D.cells D.sector_count self.new }
         ensures job { self.new ≡ record self.old { job = Force } }
     {
         self.job = Job::Force;
@@ -24,9 +24,9 @@ impl<D: Disk> Store<D> {
 
     /// Begins the job that writes every logged sector home and moves the tail. No job may be going.
     pub fn begin_home(&mut self)
-        requires store { IsStore D.told D.cells D.sector_count self.old }
+        requires store { IsStore D.known D.cells D.sector_count self.old }
         requires idle { self.old.job ≡ Idle }
-        ensures store { IsStore D.told D.cells D.sector_count self.new }
+        ensures store { IsStore D.known D.cells D.sector_count self.new }
         ensures job { self.new ≡ record self.old { job = self.new.job } }
         ensures clean { self.old.dirty.images ≡ [] → self.new.job ≡ Nothing }
         ensures dirty { self.old.dirty.images ≢ [] → self.new.job ≡ Home }
@@ -41,13 +41,13 @@ impl<D: Disk> Store<D> {
     /// Makes one device call of the job that is going, or ends it without one where it has nothing to do. A job ends
     /// where this answers `Ended` or a fault.
     pub fn advance(&mut self) -> Result<Progress, StoreFault>
-        requires store { IsStore D.told D.cells D.sector_count self.old }
-        ensures goes { Goes D.told D.cells D.sector_count D.moment D.left_since self.old self.new }
+        requires store { IsStore D.known D.cells D.sector_count self.old }
+        ensures goes { Goes D.known D.cells D.sector_count D.moment D.left_since self.old self.new }
         ensures outcome { IsOutcome result (state_of self.old) (state_of self.new) self.old.job self.new.job (D.fault_count self.old.disk) (D.fault_count self.new.disk) }
         ensures end { EndsExactly result (state_of self.old) (state_of self.new) self.old.job }
         ensures moves { StepMoves result self.old.stage (state_of self.old) (state_of self.new) self.old.job }
         ensures rises { Rises (covers_of self.old.job) (covers_of self.new.job) (state_of self.old) (state_of self.new) }
-        ensures call { Made D.told D.cells D.arming (call_of result (state_of self.old) (state_of self.new) self.old.job) result self.old.disk self.new.disk }
+        ensures call { Made D.known D.cells D.arming (call_of result (state_of self.old) (state_of self.new) self.old.job) result self.old.disk self.new.disk }
         ensures down { (fault : ℕ) → self.old.stage ≡ Down fault → (result ≡ Err (StoreFault.Down fault)) × (self.new ≡ record self.old { job = Idle }) }
     {
         match self.stage {
@@ -64,14 +64,14 @@ impl<D: Disk> Store<D> {
 
     /// The next step where nothing is in flight.
     fn next_step(&mut self) -> Result<Progress, StoreFault>
-        requires store { IsStore D.told D.cells D.sector_count self.old }
+        requires store { IsStore D.known D.cells D.sector_count self.old }
         requires stage { self.old.stage ≡ Free }
-        ensures goes { Goes D.told D.cells D.sector_count D.moment D.left_since self.old self.new }
+        ensures goes { Goes D.known D.cells D.sector_count D.moment D.left_since self.old self.new }
         ensures outcome { IsOutcome result (state_of self.old) (state_of self.new) self.old.job self.new.job (D.fault_count self.old.disk) (D.fault_count self.new.disk) }
         ensures end { EndsExactly result (state_of self.old) (state_of self.new) self.old.job }
         ensures moves { StepMoves result self.old.stage (state_of self.old) (state_of self.new) self.old.job }
         ensures rises { Rises (covers_of self.old.job) (covers_of self.new.job) (state_of self.old) (state_of self.new) }
-        ensures call { Made D.told D.cells D.arming (call_of result (state_of self.old) (state_of self.new) self.old.job) result self.old.disk self.new.disk }
+        ensures call { Made D.known D.cells D.arming (call_of result (state_of self.old) (state_of self.new) self.old.job) result self.old.disk self.new.disk }
     {
         match self.job {
             Job::Force => self.force_step(),
@@ -86,15 +86,15 @@ impl<D: Disk> Store<D> {
 
     /// A step of a force: the next record, or room for it.
     fn force_step(&mut self) -> Result<Progress, StoreFault>
-        requires store { IsStore D.told D.cells D.sector_count self.old }
+        requires store { IsStore D.known D.cells D.sector_count self.old }
         requires stage { self.old.stage ≡ Free }
         requires job { self.old.job ≡ Force }
-        ensures goes { Goes D.told D.cells D.sector_count D.moment D.left_since self.old self.new }
+        ensures goes { Goes D.known D.cells D.sector_count D.moment D.left_since self.old self.new }
         ensures outcome { IsOutcome result (state_of self.old) (state_of self.new) self.old.job self.new.job (D.fault_count self.old.disk) (D.fault_count self.new.disk) }
         ensures end { EndsExactly result (state_of self.old) (state_of self.new) self.old.job }
         ensures moves { StepMoves result self.old.stage (state_of self.old) (state_of self.new) self.old.job }
         ensures rises { Rises (covers_of self.old.job) (covers_of self.new.job) (state_of self.old) (state_of self.new) }
-        ensures call { Made D.told D.cells D.arming (call_of result (state_of self.old) (state_of self.new) self.old.job) result self.old.disk self.new.disk }
+        ensures call { Made D.known D.cells D.arming (call_of result (state_of self.old) (state_of self.new) self.old.job) result self.old.disk self.new.disk }
     {
         if self.queue.is_empty() {
             self.job = Job::Idle;
@@ -110,16 +110,16 @@ impl<D: Disk> Store<D> {
 
     /// A step of making room: a logged sector home, or the flush of those, or the cover.
     fn clear_step(&mut self) -> Result<Progress, StoreFault>
-        requires store { IsStore D.told D.cells D.sector_count self.old }
+        requires store { IsStore D.known D.cells D.sector_count self.old }
         requires stage { self.old.stage ≡ Free }
         requires job { Covering self.old.job }
-        ensures goes { Goes D.told D.cells D.sector_count D.moment D.left_since self.old self.new }
+        ensures goes { Goes D.known D.cells D.sector_count D.moment D.left_since self.old self.new }
         ensures batch { self.new.batch ≡ self.old.batch }
         ensures outcome { IsOutcome result (state_of self.old) (state_of self.new) self.old.job self.new.job (D.fault_count self.old.disk) (D.fault_count self.new.disk) }
         ensures end { EndsExactly result (state_of self.old) (state_of self.new) self.old.job }
         ensures moves { StepMoves result self.old.stage (state_of self.old) (state_of self.new) self.old.job }
         ensures rises { Rises (covers_of self.old.job) (covers_of self.new.job) (state_of self.old) (state_of self.new) }
-        ensures call { Made D.told D.cells D.arming (call_of result (state_of self.old) (state_of self.new) self.old.job) result self.old.disk self.new.disk }
+        ensures call { Made D.known D.cells D.arming (call_of result (state_of self.old) (state_of self.new) self.old.job) result self.old.disk self.new.disk }
     {
         if !self.dirty.is_empty() {
             return self.write_home();
@@ -132,15 +132,15 @@ impl<D: Disk> Store<D> {
 
     /// A step of writing back: a logged sector home, or the flush of those.
     fn home_step(&mut self) -> Result<Progress, StoreFault>
-        requires store { IsStore D.told D.cells D.sector_count self.old }
+        requires store { IsStore D.known D.cells D.sector_count self.old }
         requires stage { self.old.stage ≡ Free }
         requires job { self.old.job ≡ WriteBack }
-        ensures goes { Goes D.told D.cells D.sector_count D.moment D.left_since self.old self.new }
+        ensures goes { Goes D.known D.cells D.sector_count D.moment D.left_since self.old self.new }
         ensures outcome { IsOutcome result (state_of self.old) (state_of self.new) self.old.job self.new.job (D.fault_count self.old.disk) (D.fault_count self.new.disk) }
         ensures end { EndsExactly result (state_of self.old) (state_of self.new) self.old.job }
         ensures moves { StepMoves result self.old.stage (state_of self.old) (state_of self.new) self.old.job }
         ensures rises { Rises (covers_of self.old.job) (covers_of self.new.job) (state_of self.old) (state_of self.new) }
-        ensures call { Made D.told D.cells D.arming (call_of result (state_of self.old) (state_of self.new) self.old.job) result self.old.disk self.new.disk }
+        ensures call { Made D.known D.cells D.arming (call_of result (state_of self.old) (state_of self.new) self.old.job) result self.old.disk self.new.disk }
     {
         if !self.dirty.is_empty() {
             return self.write_home();

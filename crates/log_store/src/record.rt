@@ -96,19 +96,19 @@ impl<D: Disk> Store<D> {
 
     /// Writes the first part of the record that is gathered.
     pub(crate) fn write_record(&mut self) -> Result<Progress, StoreFault>
-        requires store { IsStore D.told D.cells D.sector_count self.old }
+        requires store { IsStore D.known D.cells D.sector_count self.old }
         requires stage { self.old.stage ≡ Free }
         requires job { self.old.job ≡ Force }
         requires some { 0 < self.old.taken }
         requires batch { IsBatch self.old.queue.items self.old.taken self.old.batch }
         requires size { self.old.count ≡ sector_count (length self.old.batch) }
         requires room { (self.old.positions.head - self.old.positions.tail) + self.old.count + 1 ≤ self.old.ring }
-        ensures goes { Goes D.told D.cells D.sector_count D.moment D.left_since self.old self.new }
+        ensures goes { Goes D.known D.cells D.sector_count D.moment D.left_since self.old self.new }
         ensures outcome { IsOutcome result (state_of self.old) (state_of self.new) self.old.job self.new.job (D.fault_count self.old.disk) (D.fault_count self.new.disk) }
         ensures end { EndsExactly result (state_of self.old) (state_of self.new) self.old.job }
         ensures moves { StepMoves result self.old.stage (state_of self.old) (state_of self.new) self.old.job }
         ensures rises { Rises (covers_of self.old.job) (covers_of self.new.job) (state_of self.old) (state_of self.new) }
-        ensures call { Made D.told D.cells D.arming (call_of result (state_of self.old) (state_of self.new) self.old.job) result self.old.disk self.new.disk }
+        ensures call { Made D.known D.cells D.arming (call_of result (state_of self.old) (state_of self.new) self.old.job) result self.old.disk self.new.disk }
     {
         flights();
         let head = self.positions.head();
@@ -144,14 +144,14 @@ impl<D: Disk> Store<D> {
 
     /// Writes the rest of a record that passes the ring's end.
     pub(crate) fn write_rest(&mut self) -> Result<Progress, StoreFault>
-        requires store { IsStore D.told D.cells D.sector_count self.old }
+        requires store { IsStore D.known D.cells D.sector_count self.old }
         requires stage { self.old.stage ≡ Half }
-        ensures goes { Goes D.told D.cells D.sector_count D.moment D.left_since self.old self.new }
+        ensures goes { Goes D.known D.cells D.sector_count D.moment D.left_since self.old self.new }
         ensures outcome { IsOutcome result (state_of self.old) (state_of self.new) self.old.job self.new.job (D.fault_count self.old.disk) (D.fault_count self.new.disk) }
         ensures end { EndsExactly result (state_of self.old) (state_of self.new) self.old.job }
         ensures moves { StepMoves result self.old.stage (state_of self.old) (state_of self.new) self.old.job }
         ensures rises { Rises (covers_of self.old.job) (covers_of self.new.job) (state_of self.old) (state_of self.new) }
-        ensures call { Made D.told D.cells D.arming (call_of result (state_of self.old) (state_of self.new) self.old.job) result self.old.disk self.new.disk }
+        ensures call { Made D.known D.cells D.arming (call_of result (state_of self.old) (state_of self.new) self.old.job) result self.old.disk self.new.disk }
     {
         flights();
         let part = self.straight();
@@ -170,14 +170,14 @@ impl<D: Disk> Store<D> {
 
     /// Flushes a record, whose commits are then durable.
     pub(crate) fn flush_record(&mut self) -> Result<Progress, StoreFault>
-        requires store { IsStore D.told D.cells D.sector_count self.old }
+        requires store { IsStore D.known D.cells D.sector_count self.old }
         requires stage { self.old.stage ≡ Record }
-        ensures goes { Goes D.told D.cells D.sector_count D.moment D.left_since self.old self.new }
+        ensures goes { Goes D.known D.cells D.sector_count D.moment D.left_since self.old self.new }
         ensures outcome { IsOutcome result (state_of self.old) (state_of self.new) self.old.job self.new.job (D.fault_count self.old.disk) (D.fault_count self.new.disk) }
         ensures end { EndsExactly result (state_of self.old) (state_of self.new) self.old.job }
         ensures moves { StepMoves result self.old.stage (state_of self.old) (state_of self.new) self.old.job }
         ensures rises { Rises (covers_of self.old.job) (covers_of self.new.job) (state_of self.old) (state_of self.new) }
-        ensures call { Made D.told D.cells D.arming (call_of result (state_of self.old) (state_of self.new) self.old.job) result self.old.disk self.new.disk }
+        ensures call { Made D.known D.cells D.arming (call_of result (state_of self.old) (state_of self.new) self.old.job) result self.old.disk self.new.disk }
     {
         flights();
         states();
@@ -204,18 +204,18 @@ impl<D: Disk> Store<D> {
 
     /// Writes the cover record.
     pub(crate) fn write_cover(&mut self) -> Result<Progress, StoreFault>
-        requires store { IsStore D.told D.cells D.sector_count self.old }
+        requires store { IsStore D.known D.cells D.sector_count self.old }
         requires stage { self.old.stage ≡ Free }
         requires none { self.old.dirty.images ≡ [] }
         requires flushed { self.old.unflushed ≡ false }
         requires job { Covering self.old.job }
-        ensures goes { Goes D.told D.cells D.sector_count D.moment D.left_since self.old self.new }
+        ensures goes { Goes D.known D.cells D.sector_count D.moment D.left_since self.old self.new }
         ensures batch { self.new.batch ≡ self.old.batch }
         ensures outcome { IsOutcome result (state_of self.old) (state_of self.new) self.old.job self.new.job (D.fault_count self.old.disk) (D.fault_count self.new.disk) }
         ensures end { EndsExactly result (state_of self.old) (state_of self.new) self.old.job }
         ensures moves { StepMoves result self.old.stage (state_of self.old) (state_of self.new) self.old.job }
         ensures rises { Rises (covers_of self.old.job) (covers_of self.new.job) (state_of self.old) (state_of self.new) }
-        ensures call { Made D.told D.cells D.arming (call_of result (state_of self.old) (state_of self.new) self.old.job) result self.old.disk self.new.disk }
+        ensures call { Made D.known D.cells D.arming (call_of result (state_of self.old) (state_of self.new) self.old.job) result self.old.disk self.new.disk }
     {
         cover_flights();
         let head = self.positions.head();
@@ -245,14 +245,14 @@ impl<D: Disk> Store<D> {
 
     /// Flushes the cover, which moves the tail.
     pub(crate) fn flush_cover(&mut self) -> Result<Progress, StoreFault>
-        requires store { IsStore D.told D.cells D.sector_count self.old }
+        requires store { IsStore D.known D.cells D.sector_count self.old }
         requires stage { self.old.stage ≡ Cover }
-        ensures goes { Goes D.told D.cells D.sector_count D.moment D.left_since self.old self.new }
+        ensures goes { Goes D.known D.cells D.sector_count D.moment D.left_since self.old self.new }
         ensures outcome { IsOutcome result (state_of self.old) (state_of self.new) self.old.job self.new.job (D.fault_count self.old.disk) (D.fault_count self.new.disk) }
         ensures end { EndsExactly result (state_of self.old) (state_of self.new) self.old.job }
         ensures moves { StepMoves result self.old.stage (state_of self.old) (state_of self.new) self.old.job }
         ensures rises { Rises (covers_of self.old.job) (covers_of self.new.job) (state_of self.old) (state_of self.new) }
-        ensures call { Made D.told D.cells D.arming (call_of result (state_of self.old) (state_of self.new) self.old.job) result self.old.disk self.new.disk }
+        ensures call { Made D.known D.cells D.arming (call_of result (state_of self.old) (state_of self.new) self.old.job) result self.old.disk self.new.disk }
     {
         cover_flights();
         states();

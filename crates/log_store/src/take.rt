@@ -28,8 +28,8 @@ impl<D: Disk> Store<D> {
     /// Makes room for so many more commits with so many images, and for all that making them durable and writing
     /// them home needs.
     pub fn reserve(&mut self, commits: u32, images: u32) -> Result<(), NoMemory>
-        requires { IsStore D.told D.cells D.sector_count self.old }
-        ensures store { IsStore D.told D.cells D.sector_count self.new }
+        requires { IsStore D.known D.cells D.sector_count self.old }
+        ensures store { IsStore D.known D.cells D.sector_count self.new }
         ensures state { state_of self.new ≡ state_of self.old }
         ensures disk { self.new.disk ≡ self.old.disk }
         ensures job { self.new.job ≡ self.old.job }
@@ -48,13 +48,13 @@ impl<D: Disk> Store<D> {
 
     /// Takes a commit, which gets the next number. There has to be room for it.
     pub fn take(&mut self, commit: Commit)
-        requires store { IsStore D.told D.cells D.sector_count self.old }
+        requires store { IsStore D.known D.cells D.sector_count self.old }
         requires commits { deque_len self.old.queue < deque_capacity self.old.queue }
         requires images { length (commit_images self.old.queue.items) + length commit.images ≤ self.old.dirty.room }
         requires commit { IsCommit commit }
         requires groups { All (IsGroupImage self.old.anchor) commit.images }
         requires number { self.old.durable + length self.old.queue.items + 1 < 2 ^ 64 - 1 }
-        ensures store { IsStore D.told D.cells D.sector_count self.new }
+        ensures store { IsStore D.known D.cells D.sector_count self.new }
         ensures list { state_of self.new ≡ record (state_of self.old) { list = self.old.queue.items ++ commit ∷ [] } }
         ensures disk { self.new.disk ≡ self.old.disk }
         ensures job { self.new.job ≡ self.old.job }

@@ -58,8 +58,8 @@ fn store_on<D: Disk>(alloc: Global, disk: D, groups: u32, ring: u32) -> Result<S
     requires least { 256 ≤ ring }
     requires most { ring ≤ 65536 }
     requires size { D.sector_count disk ≡ groups + 1 + ring }
-    requires cells { IsTrue D.told → D.cells disk ≡ settled_as (slice_set (replicate (groups + 1 + ring) zero_sector) groups (anchor_sector ring 1)) }
-    ensures { IfOk result (IsStore D.told D.cells D.sector_count) }
+    requires cells { IsTrue D.known → D.cells disk ≡ settled_as (slice_set (replicate (groups + 1 + ring) zero_sector) groups (anchor_sector ring 1)) }
+    ensures { IfOk result (IsStore D.known D.cells D.sector_count) }
 {
     logs();
     match begin_store(alloc, disk, groups as u64, ring, ring as u64, 1) {
@@ -132,8 +132,8 @@ fn may_be_taken(commit: &Commit, anchor: u64) -> bool
 
 /// Has a store take a commit.
 fn take<D: Disk>(store: &mut Store<D>, commit: Commit) -> Result<(), Fail>
-    requires { IsStore D.told D.cells D.sector_count store.old }
-    ensures { IsStore D.told D.cells D.sector_count store.new }
+    requires { IsStore D.known D.cells D.sector_count store.old }
+    ensures { IsStore D.known D.cells D.sector_count store.new }
 {
     if !may_be_taken(&commit, store.anchor) {
         return Err("no commit".into());
@@ -148,8 +148,8 @@ fn take<D: Disk>(store: &mut Store<D>, commit: Commit) -> Result<(), Fail>
 
 /// Forces a store that has no job.
 fn force<D: Disk>(store: &mut Store<D>) -> Result<Result<u64, StoreFault>, Fail>
-    requires { IsStore D.told D.cells D.sector_count store.old }
-    ensures { IsStore D.told D.cells D.sector_count store.new }
+    requires { IsStore D.known D.cells D.sector_count store.old }
+    ensures { IsStore D.known D.cells D.sector_count store.new }
 {
     if store.job != Job::Idle {
         return Err("a job is going".into());
@@ -207,8 +207,8 @@ const ROWS: [Row; 7] = [
 
 /// Takes the commit of a row, whose sectors are filled with its number.
 fn take_row<D: Disk>(alloc: Global, store: &mut Store<D>, row: usize) -> Result<(), Fail>
-    requires store { IsStore D.told D.cells D.sector_count store.old }
-    ensures { IsStore D.told D.cells D.sector_count store.new }
+    requires store { IsStore D.known D.cells D.sector_count store.old }
+    ensures { IsStore D.known D.cells D.sector_count store.new }
 {
     let Row { first, count, .. } = *ROWS.get(row).ok_or("no row")?;
     take(store, commit(alloc, first, count, (row % 250) as u8 + 1)?)
@@ -216,8 +216,8 @@ fn take_row<D: Disk>(alloc: Global, store: &mut Store<D>, row: usize) -> Result<
 
 /// Goes on with a store's job for so many steps at most, and answers how many are left, if it ended.
 fn steps<D: Disk>(store: &mut Store<D>, most: u64) -> Result<Option<u64>, StoreFault>
-    requires store { IsStore D.told D.cells D.sector_count store.old }
-    ensures { IsStore D.told D.cells D.sector_count store.new }
+    requires store { IsStore D.known D.cells D.sector_count store.old }
+    ensures { IsStore D.known D.cells D.sector_count store.new }
 {
     for used in 0..most {
         if store.advance()? == Progress::Ended {
@@ -229,8 +229,8 @@ fn steps<D: Disk>(store: &mut Store<D>, most: u64) -> Result<Option<u64>, StoreF
 
 /// Begins a force of a store that has no job.
 fn begin_force<D: Disk>(store: &mut Store<D>) -> Result<(), Fail>
-    requires { IsStore D.told D.cells D.sector_count store.old }
-    ensures { IsStore D.told D.cells D.sector_count store.new }
+    requires { IsStore D.known D.cells D.sector_count store.old }
+    ensures { IsStore D.known D.cells D.sector_count store.new }
 {
     if store.job != Job::Idle {
         return Err("a job is going".into());
@@ -250,7 +250,7 @@ struct Stopped {
 
 /// Takes and forces the rows' commits, and stops after so many steps.
 fn run<D: Disk>(alloc: Global, store: &mut Store<D>, most: u64) -> Result<Stopped, Fail>
-    requires { IsStore D.told D.cells D.sector_count store.old }
+    requires { IsStore D.known D.cells D.sector_count store.old }
 {
     let mut left = most;
     let mut acknowledged = 0;
@@ -413,8 +413,8 @@ fn a_stop_leaves_some_first_commits(rt: HostRuntime) -> Result<(), Fail> {
 
 /// Writes the sectors of a store that has no job home.
 fn write_back<D: Disk>(store: &mut Store<D>) -> Result<Result<(), StoreFault>, Fail>
-    requires { IsStore D.told D.cells D.sector_count store.old }
-    ensures { IsStore D.told D.cells D.sector_count store.new }
+    requires { IsStore D.known D.cells D.sector_count store.old }
+    ensures { IsStore D.known D.cells D.sector_count store.new }
 {
     if store.job != Job::Idle {
         return Err("a job is going".into());
@@ -424,8 +424,8 @@ fn write_back<D: Disk>(store: &mut Store<D>) -> Result<Result<(), StoreFault>, F
 
 /// Takes and forces the rows' commits and writes them home, up to the first fault.
 fn run_to_fault<D: Disk>(alloc: Global, store: &mut Store<D>) -> Result<Option<StoreFault>, Fail>
-    requires { IsStore D.told D.cells D.sector_count store.old }
-    ensures { IsStore D.told D.cells D.sector_count store.new }
+    requires { IsStore D.known D.cells D.sector_count store.old }
+    ensures { IsStore D.known D.cells D.sector_count store.new }
 {
     for row in 0..ROWS.len() {
         take_row(alloc, store, row)?;
@@ -455,7 +455,7 @@ enum Fate {
 
 /// What became of a store after this fault.
 fn fate_after<D: Disk>(store: &mut Store<D>, fault: StoreFault) -> Result<Fate, Fail>
-    requires { IsStore D.told D.cells D.sector_count store.old }
+    requires { IsStore D.known D.cells D.sector_count store.old }
 {
     let stop = store.stop_state();
     let forced = force(store)?;

@@ -74,10 +74,10 @@ impl HomeImages {
     /// Writes each image to its sector of the disk, by ascending home, one write each. Ends with the first write that fails.
     pub(crate) fn write_home<D: Disk>(&self, disk: &mut D) -> Result<(), Failed>
         requires { All (λ image. image.home < D.sector_count disk.old) self.now }
-        ensures reads { IsTrue D.told → OnOk result (as_read (D.cells disk.new) ≡ overlaid (as_read (D.cells disk.old)) self.now) }
-        ensures left { IsTrue D.told → HasOneImage (D.cells disk.old) → (image : List Sector) → IsImage (D.cells disk.new) image
+        ensures reads { IsTrue D.known → OnOk result (as_read (D.cells disk.new) ≡ overlaid (as_read (D.cells disk.old)) self.now) }
+        ensures left { IsTrue D.known → HasOneImage (D.cells disk.old) → (image : List Sector) → IsImage (D.cells disk.new) image
             → IsPartlyPut self.now (as_read (D.cells disk.old)) image }
-        ensures time { IsTrue D.told → HasOneImage (D.cells disk.old) → Elapses (D.moment disk.old) (D.moment disk.new)
+        ensures time { IsTrue D.known → HasOneImage (D.cells disk.old) → Elapses (D.moment disk.old) (D.moment disk.new)
             (D.left_since disk.old) (D.left_since disk.new) (IsPartlyPut self.now (as_read (D.cells disk.old))) }
         ensures sectors { D.sector_count disk.new ≡ D.sector_count disk.old }
         ensures arming { IsAfterWrites (D.arming disk.old) (D.arming disk.new) }

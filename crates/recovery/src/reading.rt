@@ -49,10 +49,10 @@ fn read_sectors<D: Disk>(
 ) -> Result<Vec<Sector>, ScanFault>
     requires within { from + count ≤ D.sector_count disk.old }
     requires small { from + count < 2 ^ 64 }
-    ensures sectors { IsTrue D.told → IfOk result (λ read. read.items ≡ take count (drop from (as_read (D.cells disk.old)))) }
+    ensures sectors { IsTrue D.known → IfOk result (λ read. read.items ≡ take count (drop from (as_read (D.cells disk.old)))) }
     ensures size { IfOk result (λ read. length read.items ≡ count) }
     ensures fault { IfErr result NamesNoDamage }
-    ensures only_reads { OnlyRead D.told D.cells D.sector_count D.fault_count D.arming D.moment D.left_since disk.old disk.new }
+    ensures only_reads { OnlyRead D.known D.cells D.sector_count D.fault_count D.arming D.moment D.left_since disk.old disk.new }
     ensures read_fault { IsErrOf result ScanFault.ReadFault → Rose (D.fault_count disk.old) (D.fault_count disk.new) }
 {
     let mut read = Vec::with_capacity(alloc, count as usize)?;
@@ -69,11 +69,11 @@ fn read_sectors<D: Disk>(
 pub fn scan<D: Disk>(alloc: Global, disk: &mut D, g: &Geometry) -> Result<Found, ScanFault>
     requires shape { IsGeometry g.now }
     requires size { anchor_of g.now + 1 + g.now.ring ≤ D.sector_count disk.old }
-    ensures found { IsTrue D.told → IfOk result (IsFound (as_read (D.cells disk.old)) (anchor_of g.now) g.now.ring) }
-    ensures damaged { IsTrue D.told → IfErr result (Tells (as_read (D.cells disk.old)) (anchor_of g.now) g.now.ring) }
+    ensures found { IsTrue D.known → IfOk result (IsFound (as_read (D.cells disk.old)) (anchor_of g.now) g.now.ring) }
+    ensures damaged { IsTrue D.known → IfErr result (Tells (as_read (D.cells disk.old)) (anchor_of g.now) g.now.ring) }
     ensures homes { IfOk result (HasGroupImages (anchor_of g.now)) }
     ensures number { IfOk result (λ found. 1 ≤ found.next_commit) }
-    ensures only_reads { OnlyRead D.told D.cells D.sector_count D.fault_count D.arming D.moment D.left_since disk.old disk.new }
+    ensures only_reads { OnlyRead D.known D.cells D.sector_count D.fault_count D.arming D.moment D.left_since disk.old disk.new }
     ensures read_fault { IsErrOf result ScanFault.ReadFault → Rose (D.fault_count disk.old) (D.fault_count disk.new) }
 {
     overlays();

@@ -33,7 +33,7 @@ impl Found {
 }
 
 impl<'a, D: Disk> View for Overlay<'a, D> {
-    ghost told = { D.told };
+    ghost known = { D.known };
 
     ghost sector_count = { λ view. D.sector_count view.disk.now };
 
@@ -42,24 +42,24 @@ impl<'a, D: Disk> View for Overlay<'a, D> {
     ghost image = { λ view. overlaid (as_read (D.cells view.disk.now)) view.found.now.images };
 
     ghost only_read = { λ old new. (new.found ≡ old.found) × (new.disk.ghost_name ≡ old.disk.ghost_name)
-        × OnlyRead D.told D.cells D.sector_count D.fault_count D.arming D.moment D.left_since
+        × OnlyRead D.known D.cells D.sector_count D.fault_count D.arming D.moment D.left_since
         old.disk.now new.disk.now };
 
-    ghost image_fits = { λ told view.
+    ghost image_fits = { λ known view.
         length-overlaid (as_read (D.cells view.disk.now)) view.found.now.images
-        ∙ length-as_read (D.cells view.disk.now) ∙ D.cells_fit told view.disk.now };
+        ∙ length-as_read (D.cells view.disk.now) ∙ D.cells_fit known view.disk.now };
 
     ghost no_read = { λ view. (
       refl,
       refl,
-      OnlyRead-none D.told D.cells D.sector_count D.fault_count D.arming
+      OnlyRead-none D.known D.cells D.sector_count D.fault_count D.arming
           D.moment D.left_since view.disk.now,
     ) };
 
     ghost both_read = { λ first second third one two. (
       two.0 ∙ one.0,
       two.1 ∙ one.1,
-      OnlyRead-both D.told D.cells
+      OnlyRead-both D.known D.cells
           D.sector_count D.fault_count D.arming D.moment D.left_since first.disk.now second.disk.now
           third.disk.now one.2 two.2,
     ) };

@@ -24,11 +24,11 @@ use log_image::{Anchor, home_writes, logs, write_anchor};
 /// Writes each image home, and flushes.
 fn settle_home<D: Disk>(disk: &mut D, images: &HomeImages) -> Result<(), ReplayFault>
     requires { All (λ image. image.home < D.sector_count disk.old) images.now }
-    ensures reads { IsTrue D.told → OnOk result (as_read (D.cells disk.new) ≡ overlaid (as_read (D.cells disk.old)) images.now) }
-    ensures one { IsTrue D.told → OnOk result (HasOneImage (D.cells disk.new)) }
-    ensures left { IsTrue D.told → HasOneImage (D.cells disk.old) → (image : List Sector) → IsImage (D.cells disk.new) image
+    ensures reads { IsTrue D.known → OnOk result (as_read (D.cells disk.new) ≡ overlaid (as_read (D.cells disk.old)) images.now) }
+    ensures one { IsTrue D.known → OnOk result (HasOneImage (D.cells disk.new)) }
+    ensures left { IsTrue D.known → HasOneImage (D.cells disk.old) → (image : List Sector) → IsImage (D.cells disk.new) image
         → IsPartlyPut images.now (as_read (D.cells disk.old)) image }
-    ensures time { IsTrue D.told → HasOneImage (D.cells disk.old) → Elapses (D.moment disk.old) (D.moment disk.new)
+    ensures time { IsTrue D.known → HasOneImage (D.cells disk.old) → Elapses (D.moment disk.old) (D.moment disk.new)
         (D.left_since disk.old) (D.left_since disk.new) (IsPartlyPut images.now (as_read (D.cells disk.old))) }
     ensures sectors { D.sector_count disk.new ≡ D.sector_count disk.old }
     ensures arming { IsAfterWrites (D.arming disk.old) (D.arming disk.new) }
@@ -46,11 +46,11 @@ fn settle_home<D: Disk>(disk: &mut D, images: &HomeImages) -> Result<(), ReplayF
 /// Writes one sector, and flushes.
 fn settle_sector<D: Disk>(disk: &mut D, at: u64, sector: &Sector) -> Result<(), ReplayFault>
     requires { at < D.sector_count disk.old }
-    ensures reads { IsTrue D.told → OnOk result (as_read (D.cells disk.new) ≡ slice_set (as_read (D.cells disk.old)) at sector.now) }
-    ensures one { IsTrue D.told → OnOk result (HasOneImage (D.cells disk.new)) }
-    ensures left { IsTrue D.told → HasOneImage (D.cells disk.old) → (image : List Sector) → IsImage (D.cells disk.new) image
+    ensures reads { IsTrue D.known → OnOk result (as_read (D.cells disk.new) ≡ slice_set (as_read (D.cells disk.old)) at sector.now) }
+    ensures one { IsTrue D.known → OnOk result (HasOneImage (D.cells disk.new)) }
+    ensures left { IsTrue D.known → HasOneImage (D.cells disk.old) → (image : List Sector) → IsImage (D.cells disk.new) image
         → IsEither (as_read (D.cells disk.old)) at sector.now image }
-    ensures time { IsTrue D.told → HasOneImage (D.cells disk.old) → Elapses (D.moment disk.old) (D.moment disk.new)
+    ensures time { IsTrue D.known → HasOneImage (D.cells disk.old) → Elapses (D.moment disk.old) (D.moment disk.new)
         (D.left_since disk.old) (D.left_since disk.new) (IsEither (as_read (D.cells disk.old)) at sector.now) }
     ensures sectors { D.sector_count disk.new ≡ D.sector_count disk.old }
     ensures arming { IsAfterWrites (D.arming disk.old) (D.arming disk.new) }
@@ -88,14 +88,14 @@ pub fn replay<D: Disk>(disk: &mut D, g: &Geometry, found: &Found) -> Result<Star
     requires shape { IsGeometry g.now }
     requires size { anchor_of g.now + 1 + g.now.ring ≤ D.sector_count disk.old }
     requires homes { HasGroupImages (anchor_of g.now) found.now }
-    requires found { IsTrue D.told → IsFound (as_read (D.cells disk.old)) (anchor_of g.now) g.now.ring found.now }
-    requires one { IsTrue D.told → HasOneImage (D.cells disk.old) }
+    requires found { IsTrue D.known → IsFound (as_read (D.cells disk.old)) (anchor_of g.now) g.now.ring found.now }
+    requires one { IsTrue D.known → HasOneImage (D.cells disk.old) }
     ensures start { IfOk result (IsBehind g.now.ring found.now) }
-    ensures anew { IsTrue D.told → IfOk result (BeginsAnew (anchor_of g.now) g.now.ring
+    ensures anew { IsTrue D.known → IfOk result (BeginsAnew (anchor_of g.now) g.now.ring
         (groups_found (anchor_of g.now) (as_read (D.cells disk.old)) found.now) (D.cells disk.new)) }
-    ensures left { IsTrue D.told → (image : List Sector) → IsImage (D.cells disk.new) image → Recovers (anchor_of g.now) g.now.ring
+    ensures left { IsTrue D.known → (image : List Sector) → IsImage (D.cells disk.new) image → Recovers (anchor_of g.now) g.now.ring
         (groups_found (anchor_of g.now) (as_read (D.cells disk.old)) found.now) found.now.next_commit image }
-    ensures time { IsTrue D.told → Elapses (D.moment disk.old) (D.moment disk.new) (D.left_since disk.old) (D.left_since disk.new)
+    ensures time { IsTrue D.known → Elapses (D.moment disk.old) (D.moment disk.new) (D.left_since disk.old) (D.left_since disk.new)
         (Recovers (anchor_of g.now) g.now.ring (groups_found (anchor_of g.now) (as_read (D.cells disk.old)) found.now) found.now.next_commit) }
     ensures position_end { IsErrOf result ReplayFault.PositionEnd ↔ AreUsedUp g.now.ring found.now }
     ensures untouched { IsErrOf result ReplayFault.PositionEnd → disk.new ≡ disk.old }

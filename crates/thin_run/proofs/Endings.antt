@@ -8,7 +8,7 @@ use Rattle.thin_run.specs.declared.runner.Run.{Run}
 use Rattle.thin_run.specs.declared.command.Command.{Command}
 use Rattle.thin_run.specs.declared.types.MountRecord.{MountRecord}
 use Rattle.thin_run.specs.Ending.{stories_of}
-use Rattle.thin_run.specs.Outcome.{all_entries, where_told, StandsWhereTold, GoesOnWhereTold, IsLegalOver, IsLogged, IsFirst, Caused}
+use Rattle.thin_run.specs.Outcome.{all_entries, where_known, StandsWhereKnown, GoesOnWhereKnown, IsLegalOver, IsLogged, IsFirst, Caused}
 use Rattle.thin_run.specs.Run.{FitsDisk, HaveHistory, entries_of, fault_state}
 use Rattle.thin_run.specs.Story.{Told}
 use Rattle.thin_run.specs.Thin.{Origin, Begins, ring_of}
@@ -21,36 +21,36 @@ pub all_entries-stories_of : (mount : Option Mount) → all_entries (stories_of 
 all_entries-stories_of None = refl
 all_entries-stories_of (Some m) = append-nil m.story.entries.items
 
-stands : (told : Bool) (image : List Sector) (o : Origin) → (IsTrue told → Begins image o) → StandsWhereTold (where_told told image) o.first
+stands : (known : Bool) (image : List Sector) (o : Origin) → (IsTrue known → Begins image o) → StandsWhereKnown (where_known known image) o.first
 stands true image o begins =
     let b = begins refl in
     (b.0, b.1.thin, b.1.rows)
 stands false image o begins = tt
 
-goes_on : (told : Bool) (image : List Sector) (o : Origin) (base : ℕ) → base ≡ o.base → (IsTrue told → Begins image o)
-    → GoesOnWhereTold (where_told told image) o.start base
+goes_on : (known : Bool) (image : List Sector) (o : Origin) (base : ℕ) → base ≡ o.base → (IsTrue known → Begins image o)
+    → GoesOnWhereKnown (where_known known image) o.start base
 goes_on true image o base same begins =
     let b = begins refl in
     (b.0, b.1.thin, b.1.start, same ∙ b.1.base)
 goes_on false image o base same begins = tt
 
 -- the entries of the mount that is up are legal from the table that the image stands for
-pub stories_of-legal : (told : Bool) (image : List Sector) (mount : Option Mount)
-    → ((o : Origin) × HaveHistory o mount × (IsTrue told → is_some mount ≡ true → Begins image o))
-    → AllByRecursion (IsLegalOver (where_told told image)) (stories_of mount)
-stories_of-legal told image None origin = tt
-stories_of-legal told image (Some m) (o, has, begins) =
-    ((o.first, stands told image o (λ yes. begins yes refl), (has.legal.0, has.legal.1)), tt)
+pub stories_of-legal : (known : Bool) (image : List Sector) (mount : Option Mount)
+    → ((o : Origin) × HaveHistory o mount × (IsTrue known → is_some mount ≡ true → Begins image o))
+    → AllByRecursion (IsLegalOver (where_known known image)) (stories_of mount)
+stories_of-legal known image None origin = tt
+stories_of-legal known image (Some m) (o, has, begins) =
+    ((o.first, stands known image o (λ yes. begins yes refl), (has.legal.0, has.legal.1)), tt)
 
 -- and its log goes on behind what the image holds
-pub stories_of-logged : (told : Bool) (image : List Sector) (sectors : ℕ) (mount : Option Mount) → FitsDisk mount sectors
-    → ((o : Origin) × HaveHistory o mount × (IsTrue told → is_some mount ≡ true → Begins image o))
-    → AllByRecursion (IsLogged (where_told told image) (ring_of sectors)) (stories_of mount)
-stories_of-logged told image sectors None fits origin = tt
-stories_of-logged told image sectors (Some m) fits (o, has, begins) = (
+pub stories_of-logged : (known : Bool) (image : List Sector) (sectors : ℕ) (mount : Option Mount) → FitsDisk mount sectors
+    → ((o : Origin) × HaveHistory o mount × (IsTrue known → is_some mount ≡ true → Begins image o))
+    → AllByRecursion (IsLogged (where_known known image) (ring_of sectors)) (stories_of mount)
+stories_of-logged known image sectors None fits origin = tt
+stories_of-logged known image sectors (Some m) fits (o, has, begins) = (
   (
     o.start,
-    goes_on told image o m.story.base has.base (λ yes. begins yes refl),
+    goes_on known image o m.story.base has.base (λ yes. begins yes refl),
     (log_of m, subst (λ (ring : ℕ). LogHistory ring (log_from o.start) m.story.entries.items (log_of m)) fits.1 has.log, refl),
   ),
   tt,
@@ -69,9 +69,9 @@ IsWalk-caused commands before count after run story mounts same walk within = (
   (
     story,
     record {
-      lines = walk.told.lines;
-      answers = walk.told.answers;
-      made = walk.told.made ∙ sym (ap all_entries same ∙ all_entries-stories_of run.mount);
+      lines = walk.known.lines;
+      answers = walk.known.answers;
+      made = walk.known.made ∙ sym (ap all_entries same ∙ all_entries-stories_of run.mount);
     },
     (fault_state run.mount count, walk.causes, within),
   ),

@@ -79,6 +79,6 @@ AnswersAs-fresh sectors o m before after fresh risen None up = record {
 }
 
 -- it comes up with what the disk read as
-pub ComesUp-fresh : (told : Bool) (before : List Sector) (sectors : ℕ) (o : Origin) (m : Mount) → IsFresh sectors o m → (IsTrue told → Begins before o)
-    → (old : Option Mount) → ComesUp told before old (Some m)
-ComesUp-fresh told before sectors o m fresh begins old none some = (o, HasHistory-fresh sectors o m fresh, begins)
+pub ComesUp-fresh : (known : Bool) (before : List Sector) (sectors : ℕ) (o : Origin) (m : Mount) → IsFresh sectors o m → (IsTrue known → Begins before o)
+    → (old : Option Mount) → ComesUp known before old (Some m)
+ComesUp-fresh known before sectors o m fresh begins old none some = (o, HasHistory-fresh sectors o m fresh, begins)

@@ -35,14 +35,14 @@ made_of-one command said None = refl
 made_of-one command said (Some entry) = refl
 
 -- the story of one more line
-IsStory-push : (commands : List Command) (said : List Said) (entries : List Entry) (story : List Told) (told : Told)
+IsStory-push : (commands : List Command) (said : List Said) (entries : List Entry) (story : List Told) (known : Told)
     → IsStory commands said entries story
-    → IsStory (commands ++ told.command ∷ []) (said ++ told.said ∷ []) (entries ++ option_to_list told.made) (story ++ told ∷ [])
-IsStory-push commands said entries story told is = record {
-  lines = map-append (λ (t : Told). t.command) story (told ∷ []) ∙ ap (λ (l : List Command). l ++ told.command ∷ []) is.lines;
-  answers = map-append (λ (t : Told). t.said) story (told ∷ []) ∙ ap (λ (l : List Said). l ++ told.said ∷ []) is.answers;
-  made = filter_map-append (λ (t : Told). t.made) story (told ∷ []) ∙ ap (λ (l : List Entry). l ++ filter_map (λ (t : Told). t.made) (told ∷ [])) is.made
-      ∙ ap (λ (l : List Entry). entries ++ l) (made_of-one told.command told.said told.made);
+    → IsStory (commands ++ known.command ∷ []) (said ++ known.said ∷ []) (entries ++ option_to_list known.made) (story ++ known ∷ [])
+IsStory-push commands said entries story known is = record {
+  lines = map-append (λ (t : Told). t.command) story (known ∷ []) ∙ ap (λ (l : List Command). l ++ known.command ∷ []) is.lines;
+  answers = map-append (λ (t : Told). t.said) story (known ∷ []) ∙ ap (λ (l : List Said). l ++ known.said ∷ []) is.answers;
+  made = filter_map-append (λ (t : Told). t.made) story (known ∷ []) ∙ ap (λ (l : List Entry). l ++ filter_map (λ (t : Told). t.made) (known ∷ [])) is.made
+      ∙ ap (λ (l : List Entry). entries ++ l) (made_of-one known.command known.said known.made);
 }
 
 MountsFit-push : (image : List Sector) (said : List Said) (one : Said) → MountsFit image said → MountFits image one → MountsFit image (said ++ one ∷ [])
@@ -54,32 +54,32 @@ pub IsWalk-goes : (commands : List Command) (before middle after : ℕ) (old new
     → IsWalk commands before middle old story → Goes command old new middle after said made
     → IsWalk (commands ++ command ∷ []) before after new (story ++ record { command = command; said = said; made = made } ∷ [])
 IsWalk-goes commands before middle after old new story command said made walk goes =
-    let told : Told = record { command = command; said = said; made = made } in
-    let told_all = IsStory-push commands old.said.items (entries_of old.mount) story told walk.told in
+    let known : Told = record { command = command; said = said; made = made } in
+    let told_all = IsStory-push commands old.said.items (entries_of old.mount) story known walk.known in
     record {
-      told = record { lines = told_all.lines; answers = told_all.answers ∙ sym goes.said; made = told_all.made ∙ sym goes.answers.entries };
-      answers = Steps-push (λ s (one : Told) t. AnswersLine s one.command one.said one.made t) unmounted story (answer_state old.mount) told (answer_state new.mount) walk.answers goes.answers.answer;
-      causes = Steps-push (λ s (one : Told) t. SaidCause s one.said one.made t) (record { count = before; down = None }) story (fault_state old.mount middle) told (fault_state new.mount after) walk.causes goes.answers.cause;
+      known = record { lines = told_all.lines; answers = told_all.answers ∙ sym goes.said; made = told_all.made ∙ sym goes.answers.entries };
+      answers = Steps-push (λ s (one : Told) t. AnswersLine s one.command one.said one.made t) unmounted story (answer_state old.mount) known (answer_state new.mount) walk.answers goes.answers.answer;
+      causes = Steps-push (λ s (one : Told) t. SaidCause s one.said one.made t) (record { count = before; down = None }) story (fault_state old.mount middle) known (fault_state new.mount after) walk.causes goes.answers.cause;
     }
 
 -- the mount that is up goes on from what it began with
-origin_goes : (told : Bool) (image middle : List Sector) (old new : Option Mount)
-    → ((o : Origin) × HaveHistory o old × (IsTrue told → is_some old ≡ true → Begins image o))
-    → ((o : Origin) → is_some old ≡ true → HaveHistory o old → HaveHistory o new) → ComesUp told middle old new
-    → (IsTrue told → is_some old ≡ false → middle ≡ image)
-    → (o : Origin) × HaveHistory o new × (IsTrue told → is_some new ≡ true → Begins image o)
-origin_goes told image middle (Some m) new (o, has, begins) goes comes reads = (o, goes o refl has, (λ yes some. begins yes refl))
-origin_goes told image middle None None (o, has, begins) goes comes reads = (o, tt, (λ yes some. absurd (true≢false (sym some))))
-origin_goes told image middle None (Some n) (o, has, begins) goes comes reads =
+origin_goes : (known : Bool) (image middle : List Sector) (old new : Option Mount)
+    → ((o : Origin) × HaveHistory o old × (IsTrue known → is_some old ≡ true → Begins image o))
+    → ((o : Origin) → is_some old ≡ true → HaveHistory o old → HaveHistory o new) → ComesUp known middle old new
+    → (IsTrue known → is_some old ≡ false → middle ≡ image)
+    → (o : Origin) × HaveHistory o new × (IsTrue known → is_some new ≡ true → Begins image o)
+origin_goes known image middle (Some m) new (o, has, begins) goes comes reads = (o, goes o refl has, (λ yes some. begins yes refl))
+origin_goes known image middle None None (o, has, begins) goes comes reads = (o, tt, (λ yes some. absurd (true≢false (sym some))))
+origin_goes known image middle None (Some n) (o, has, begins) goes comes reads =
     let up = comes refl refl in
     (up.0, up.1, (λ yes some. subst (λ (l : List Sector). Begins l up.0) (reads yes refl) (up.2 yes)))
 
 -- and so it does over what the disk reads as
-pub IsWalkOver-goes : (told : Bool) (image middle after : List Sector) (before_count after_count : ℕ) (old new : Run) (command : Command) (said : Said) (made : Option Entry)
+pub IsWalkOver-goes : (known : Bool) (image middle after : List Sector) (before_count after_count : ℕ) (old new : Run) (command : Command) (said : Said) (made : Option Entry)
     → Goes command old new before_count after_count said made
-    → IsWalkOver told image middle old → KeepsReads told old new middle after said → IsWalkOver told image after new
-IsWalkOver-goes told image middle after before_count after_count old new command said made goes walk keeps = record {
-  origin = origin_goes told image middle old.mount new.mount walk.origin goes.answers.histories keeps.comes_up walk.reads;
+    → IsWalkOver known image middle old → KeepsReads known old new middle after said → IsWalkOver known image after new
+IsWalkOver-goes known image middle after before_count after_count old new command said made goes walk keeps = record {
+  origin = origin_goes known image middle old.mount new.mount walk.origin goes.answers.histories keeps.comes_up walk.reads;
   fits = λ yes. subst (λ (l : List Said). MountsFit image l) (sym goes.said) (MountsFit-push image old.said.items said (walk.fits yes) ((keeps.keeps yes).fits image (walk.reads yes)));
   reads = λ yes none. (keeps.keeps yes).same none ∙ walk.reads yes ((keeps.keeps yes).stays none);
 }
@@ -129,14 +129,14 @@ is_some-left (Some old) (Some new) left = refl
 pub IsWalk-left : (commands : List Command) (before after : ℕ) (old new : Run) (story : List Told) → LeaveStory old.mount new.mount
     → new.said.items ≡ old.said.items → IsWalk commands before after old story → IsWalk commands before after new story
 IsWalk-left commands before after old new story left same walk = record {
-  told = record { lines = walk.told.lines; answers = walk.told.answers ∙ sym same; made = walk.told.made ∙ sym (entries_of-left old.mount new.mount left) };
+  known = record { lines = walk.known.lines; answers = walk.known.answers ∙ sym same; made = walk.known.made ∙ sym (entries_of-left old.mount new.mount left) };
   answers = subst (λ (s : AnswerState). Answers unmounted story s) (sym (answer_state-left old.mount new.mount left)) walk.answers;
   causes = subst (λ (s : FaultState). Causes (record { count = before; down = None }) story s) (sym (fault_state-left old.mount new.mount after left)) walk.causes;
 }
 
-pub IsWalkOver-left : (told : Bool) (image now then : List Sector) (old new : Run) → LeaveStory old.mount new.mount → new.said.items ≡ old.said.items
-    → (IsTrue told → then ≡ now) → IsWalkOver told image now old → IsWalkOver told image then new
-IsWalkOver-left told image now then old new left same reads walk = record {
+pub IsWalkOver-left : (known : Bool) (image now then : List Sector) (old new : Run) → LeaveStory old.mount new.mount → new.said.items ≡ old.said.items
+    → (IsTrue known → then ≡ now) → IsWalkOver known image now old → IsWalkOver known image then new
+IsWalkOver-left known image now then old new left same reads walk = record {
   origin = (
     walk.origin.0,
     HaveHistory-left walk.origin.0 old.mount new.mount left walk.origin.1,

@@ -32,38 +32,38 @@ AnswersAll commands said mounts =
     × ((last : AnswerState) × Answers unmounted story last × IsLast last mounts)
 
 -- what a kind of disk holds, where such disks tell it
-abbrev pub where_told : Bool → List Sector → Option (List Sector)
-where_told true image = Some image
-where_told false image = None
+abbrev pub where_known : Bool → List Sector → Option (List Sector)
+where_known true image = Some image
+where_known false image = None
 
 -- a run that was given a disk ends well, or for want of memory
 abbrev pub IsRunStatus : Status → Type 0
 IsRunStatus ended = (ended ≡ status.Good) ⊎ (ended ≡ status.NoMemory)
 
--- the image, where it is told, stands for this table
-abbrev pub StandsWhereTold : Option (List Sector) → Table → Type 0
-StandsWhereTold None t = ⊤
-StandsWhereTold (Some image) t = Stands image t
+-- the image, where it is known, stands for this table
+abbrev pub StandsWhereKnown : Option (List Sector) → Table → Type 0
+StandsWhereKnown None t = ⊤
+StandsWhereKnown (Some image) t = Stands image t
 
 -- the mount's entries are one legal history of the table that the image stands for
 abbrev pub IsLegalOver : Option (List Sector) → MountRecord → Type 0
-IsLegalOver image m = (first : Table) × StandsWhereTold image first × ((last : Table) × LegalHistory first m.entries.items last)
+IsLegalOver image m = (first : Table) × StandsWhereKnown image first × ((last : Table) × LegalHistory first m.entries.items last)
 
--- a mount line was damaged exactly where the image, if it is told, is not thin
-abbrev pub FitWhereTold : Option (List Sector) → List Said → Type 0
-FitWhereTold None said = ⊤
-FitWhereTold (Some image) said = MountsFit image said
+-- a mount line was damaged exactly where the image, if it is known, is not thin
+abbrev pub FitWhereKnown : Option (List Sector) → List Said → Type 0
+FitWhereKnown None said = ⊤
+FitWhereKnown (Some image) said = MountsFit image said
 
--- where the log of a mount of the image goes on, and the number of the mount's first change, where the image is told
-abbrev pub GoesOnWhereTold : Option (List Sector) → ℕ → ℕ → Type 0
-GoesOnWhereTold None start base = ⊤
-GoesOnWhereTold (Some image) start base =
+-- where the log of a mount of the image goes on, and the number of the mount's first change, where the image is known
+abbrev pub GoesOnWhereKnown : Option (List Sector) → ℕ → ℕ → Type 0
+GoesOnWhereKnown None start base = ⊤
+GoesOnWhereKnown (Some image) start base =
     (records : List LogRecord) × IsThinWith image records × IsStart (ring_part image) start × (base ≡ next_commit records)
 
 -- the mount's log, a ring of so many sectors, goes on behind what the image holds, and gives the entries their replies
 abbrev pub IsLogged : Option (List Sector) → ℕ → MountRecord → Type 0
 IsLogged image ring m =
-    (start : ℕ) × GoesOnWhereTold image start m.base
+    (start : ℕ) × GoesOnWhereKnown image start m.base
     × ((last : LogState) × LogHistory ring (log_from start) m.entries.items last × (last.acknowledged ≡ m.acknowledged))
 
 -- a first mount: nothing was kept or freed, and each call began where its entry stands

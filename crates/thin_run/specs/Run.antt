@@ -57,7 +57,7 @@ pub record AnswersAs (command : Command) (old new : Option Mount) (before after 
 
 -- where a mount came up, it has what the disk read as before, if the disk tells
 abbrev pub ComesUp : Bool → List Sector → Option Mount → Option Mount → Type 0
-ComesUp told before old new = is_some old ≡ false → is_some new ≡ true → (o : Origin) × HaveHistory o new × (IsTrue told → Begins before o)
+ComesUp known before old new = is_some old ≡ false → is_some new ≡ true → (o : Origin) × HaveHistory o new × (IsTrue known → Begins before o)
 
 -- while no mount is up, the disk reads as before; what a line was answered fits what it reads as
 pub record KeepsImage (old new : Option Mount) (before after : List Sector) (said : Said) : Type 0 where

@@ -23,9 +23,9 @@ pub record Told : Type 0 where
 
 -- the story of these lines, of what was said, and of these entries, all in order
 pub record IsStory (commands : List Command) (said : List Said) (entries : List Entry) (story : List Told) : Type 0 where
-  pub lines : map (λ told. told.command) story ≡ commands
-  pub answers : map (λ told. told.said) story ≡ said
-  pub made : filter_map (λ told. told.made) story ≡ entries
+  pub lines : map (λ known. known.command) story ≡ commands
+  pub answers : map (λ known. known.said) story ≡ said
+  pub made : filter_map (λ known. known.made) story ≡ entries
 
 -- whether a mount is up, and how many entries it has
 pub record AnswerState : Type 0 where
@@ -65,7 +65,7 @@ AnswersLine before (Whole call) said made after = AnswersCall before before.up c
 
 -- each line in turn has the answer that fits it
 abbrev pub Answers : AnswerState → List Told → AnswerState → Type 0
-Answers first story last = Steps (λ before told after. AnswersLine before told.command told.said told.made after) first story last
+Answers first story last = Steps (λ before known after. AnswersLine before known.command known.said known.made after) first story last
 
 -- the disk's count of faults, and what it was after the fault that took the log down
 pub record FaultState : Type 0 where
@@ -107,4 +107,4 @@ SaidCause before (Of mount entry) (Some made) after = EventCause before made.eve
 
 -- each line in turn has its cause
 abbrev pub Causes : FaultState → List Told → FaultState → Type 0
-Causes first story last = Steps (λ before told after. SaidCause before told.said told.made after) first story last
+Causes first story last = Steps (λ before known after. SaidCause before known.said known.made after) first story last

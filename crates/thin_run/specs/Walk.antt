@@ -15,22 +15,22 @@ pub record Goes (command : Command) (old new : Run) (before after : ℕ) (one : 
   pub answers : AnswersAs command old.mount new.mount before after one made
 
 -- the same of what the disk reads as, where the disk tells
-pub record KeepsReads (told : Bool) (old new : Run) (before after : List Sector) (said : Said) : Type 0 where
-  pub comes_up : ComesUp told before old.mount new.mount
-  pub keeps : IsTrue told → KeepsImage old.mount new.mount before after said
+pub record KeepsReads (known : Bool) (old new : Run) (before after : List Sector) (said : Said) : Type 0 where
+  pub comes_up : ComesUp known before old.mount new.mount
+  pub keeps : IsTrue known → KeepsImage old.mount new.mount before after said
 
 -- the mount that is up, if there is one, goes on from what it began with: from this image, where the disk tells
 abbrev pub HasOrigin : Bool → List Sector → Run → Type 0
-HasOrigin told image run = (o : Origin) × HaveHistory o run.mount × (IsTrue told → is_some run.mount ≡ true → Begins image o)
+HasOrigin known image run = (o : Origin) × HaveHistory o run.mount × (IsTrue known → is_some run.mount ≡ true → Begins image o)
 
 -- a run has come so far: this is the story of its lines, with the disk's count of faults before the first and after the last
 pub record IsWalk (commands : List Command) (before after : ℕ) (run : Run) (story : List Told) : Type 0 where
-  pub told : IsStory commands run.said.items (entries_of run.mount) story
+  pub known : IsStory commands run.said.items (entries_of run.mount) story
   pub answers : Answers unmounted story (answer_state run.mount)
   pub causes : Causes (record { count = before; down = None }) story (fault_state run.mount after)
 
 -- the same over what the disk read as before the first line, where it tells: it reads so as long as no mount is up
-pub record IsWalkOver (told : Bool) (image now : List Sector) (run : Run) : Type 0 where
-  pub origin : HasOrigin told image run
-  pub fits : IsTrue told → MountsFit image run.said.items
-  pub reads : IsTrue told → is_some run.mount ≡ false → now ≡ image
+pub record IsWalkOver (known : Bool) (image now : List Sector) (run : Run) : Type 0 where
+  pub origin : HasOrigin known image run
+  pub fits : IsTrue known → MountsFit image run.said.items
+  pub reads : IsTrue known → is_some run.mount ≡ false → now ≡ image

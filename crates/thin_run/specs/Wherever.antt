@@ -22,7 +22,7 @@ IsLeft before (m ∷ []) cells =
     (first : Table) × Stands before first × ((image : List Sector) → IsImage cells image → (n : ℕ) × IsPrefix first m image n)
 IsLeft before (m ∷ n ∷ more) cells = ⊥
 
--- the same, where the first image is told
-abbrev pub LeftWhereTold : Option (List Sector) → List MountRecord → List Cell → Type 0
-LeftWhereTold None mounts cells = ⊤
-LeftWhereTold (Some before) mounts cells = IsLeft before mounts cells
+-- the same, where the first image is known
+abbrev pub LeftWhereKnown : Option (List Sector) → List MountRecord → List Cell → Type 0
+LeftWhereKnown None mounts cells = ⊤
+LeftWhereKnown (Some before) mounts cells = IsLeft before mounts cells

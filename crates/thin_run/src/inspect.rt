@@ -30,7 +30,7 @@ pub(crate) enum MountRefused {
 
 /// All sectors of the disk.
 fn read_image<D: Disk>(alloc: Global, disk: &mut D) -> Result<Vec<Sector>, Refused>
-    ensures image { IsTrue D.told → IfOk result (λ image. image.items ≡ as_read (D.cells disk.old)) }
+    ensures image { IsTrue D.known → IfOk result (λ image. image.items ≡ as_read (D.cells disk.old)) }
     ensures size { IfOk result (λ image. length image.items ≡ D.sector_count disk.old) }
     ensures cells { D.cells disk.new ≡ D.cells disk.old }
     ensures sectors { D.sector_count disk.new ≡ D.sector_count disk.old }
@@ -81,16 +81,16 @@ fn mount_of(alloc: Global, sectors: u64, found: Replayed) -> Mount
 
 /// Mounts the disk, or says why it can't be mounted. Where memory lacks, the disk was only read.
 pub(crate) fn try_mount<D: Disk>(alloc: Global, disk: &mut D) -> Result<Mount, MountRefused>
-    ensures fresh { IfOk result (λ m. (o : Origin) × IsFresh (D.sector_count disk.old) o m × (IsTrue D.told → Begins (as_read (D.cells disk.old)) o)) }
+    ensures fresh { IfOk result (λ m. (o : Origin) × IsFresh (D.sector_count disk.old) o m × (IsTrue D.known → Begins (as_read (D.cells disk.old)) o)) }
     ensures size { OnOk result (72 ≤ D.sector_count disk.old) }
     ensures risen { D.fault_count disk.old ≤ D.fault_count disk.new }
-    ensures thin { IsTrue D.told → OnOk result (IsThin (as_read (D.cells disk.old))) }
+    ensures thin { IsTrue D.known → OnOk result (IsThin (as_read (D.cells disk.old))) }
     ensures refused { IfErr result (λ refusal. RefusesMount (D.fault_count disk.old) (D.fault_count disk.new) refusal) }
-    ensures fits { IsTrue D.told → IfErr result (λ refusal. RefusalFits (as_read (D.cells disk.old)) refusal) }
+    ensures fits { IsTrue D.known → IfErr result (λ refusal. RefusalFits (as_read (D.cells disk.old)) refusal) }
     ensures small { OnOk result (D.sector_count disk.old ≤ MOUNT_LIMIT) }
-    ensures flushed { IsTrue D.told → OnOk result (D.cells disk.new ≡ flushed (D.cells disk.old)) }
+    ensures flushed { IsTrue D.known → OnOk result (D.cells disk.new ≡ flushed (D.cells disk.old)) }
     ensures kept { OnErr result (D.cells disk.new ≡ D.cells disk.old) }
-    ensures same { IsTrue D.told → as_read (D.cells disk.new) ≡ as_read (D.cells disk.old) }
+    ensures same { IsTrue D.known → as_read (D.cells disk.new) ≡ as_read (D.cells disk.old) }
     ensures sectors { D.sector_count disk.new ≡ D.sector_count disk.old }
 {
     let sectors = disk.sectors();

@@ -124,7 +124,7 @@ impl Mount {
     fn sync<D: Disk>(&mut self, alloc: Global, disk: &mut D) -> Result<Reply, NoMemory>
         requires { 64 + self.old.ring ≤ D.sector_count disk.old }
         ensures syncs { IfOk result IsSyncReply }
-        ensures moves { IsTrue D.told → IfOk result (λ reply. Moves self.old (D.cells disk.old) reply self.new (D.cells disk.new)) }
+        ensures moves { IsTrue D.known → IfOk result (λ reply. Moves self.old (D.cells disk.old) reply self.new (D.cells disk.new)) }
         ensures log { IfOk result (λ reply. LogReply self.old.ring (log_of self.old) reply (log_of self.new)) }
         ensures cause { IfOk result (λ reply. ReplyCause (faults_of self.old (D.fault_count disk.old)) reply
             (faults_of self.new (D.fault_count disk.new))) }
@@ -191,7 +191,7 @@ impl Mount {
     ) -> Result<Reply, NoMemory>
         requires { 64 + self.old.ring ≤ D.sector_count disk.old }
         ensures answers { IfOk result (λ reply. IsAnswer call self.old self.new (D.fault_count disk.old) (D.fault_count disk.new) reply) }
-        ensures moves { IsTrue D.told → IfOk result (λ reply. Moves self.old (D.cells disk.old) reply self.new (D.cells disk.new)) }
+        ensures moves { IsTrue D.known → IfOk result (λ reply. Moves self.old (D.cells disk.old) reply self.new (D.cells disk.new)) }
         ensures story { self.new.story ≡ record self.old.story { acknowledged = self.new.story.acknowledged } }
         ensures err { OnErr result (LeavesStory self.old self.new) }
         ensures disk { OnErr result (disk.new ≡ disk.old) }
@@ -213,7 +213,7 @@ impl Mount {
     ) -> Result<(), NoMemory>
         requires { 64 + self.old.ring ≤ D.sector_count disk.old }
         ensures noted { OnOk result ((entry : Entry) × IsCall call self.old self.new (D.fault_count disk.old) (D.fault_count disk.new) entry) }
-        ensures holds { IsTrue D.told → (first : Table) → Holds first self.old (D.cells disk.old) → Holds first self.new (D.cells disk.new) }
+        ensures holds { IsTrue D.known → (first : Table) → Holds first self.old (D.cells disk.old) → Holds first self.new (D.cells disk.new) }
         ensures unnoted { OnErr result (LeavesStory self.old self.new) }
         ensures disk { OnErr result (disk.new ≡ disk.old) }
         ensures ring { self.new.ring ≡ self.old.ring }

@@ -25,12 +25,12 @@ fn answer_mount<D: Disk>(
 ) -> Result<LineReply, NoMemory>
     requires { FitsDisk mount.old (D.sector_count disk.old) }
     ensures fits { FitsDisk mount.new (D.sector_count disk.new) }
-    ensures holds { IsTrue D.told → (image : List Sector) → DiskHolds image mount.old (D.cells disk.old) → DiskHolds image mount.new (D.cells disk.new) }
+    ensures holds { IsTrue D.known → (image : List Sector) → DiskHolds image mount.old (D.cells disk.old) → DiskHolds image mount.new (D.cells disk.new) }
     ensures answers { IfOk result (λ reply. AnswersAs command.Mount mount.old mount.new (D.fault_count disk.old) (D.fault_count disk.new) (Line None reply) None) }
-    ensures comes_up { OnOk result (ComesUp D.told (as_read (D.cells disk.old)) mount.old mount.new) }
-    ensures image { IsTrue D.told → IfOk result (λ reply. KeepsImage mount.old mount.new (as_read (D.cells disk.old)) (as_read (D.cells disk.new)) (Line None reply)) }
+    ensures comes_up { OnOk result (ComesUp D.known (as_read (D.cells disk.old)) mount.old mount.new) }
+    ensures image { IsTrue D.known → IfOk result (λ reply. KeepsImage mount.old mount.new (as_read (D.cells disk.old)) (as_read (D.cells disk.new)) (Line None reply)) }
     ensures unmade { OnErr result (mount.new ≡ mount.old) }
-    ensures reads { IsTrue D.told → OnErr result (as_read (D.cells disk.new) ≡ as_read (D.cells disk.old)) }
+    ensures reads { IsTrue D.known → OnErr result (as_read (D.cells disk.new) ≡ as_read (D.cells disk.old)) }
     ensures risen { D.fault_count disk.old ≤ D.fault_count disk.new }
     ensures sectors { D.sector_count disk.new ≡ D.sector_count disk.old }
 {
@@ -55,11 +55,11 @@ fn answer_call<D: Disk>(
 ) -> Result<Said, NoMemory>
     requires { FitsDisk mount.old (D.sector_count disk.old) }
     ensures fits { FitsDisk mount.new (D.sector_count disk.new) }
-    ensures holds { IsTrue D.told → (image : List Sector) → DiskHolds image mount.old (D.cells disk.old) → DiskHolds image mount.new (D.cells disk.new) }
+    ensures holds { IsTrue D.known → (image : List Sector) → DiskHolds image mount.old (D.cells disk.old) → DiskHolds image mount.new (D.cells disk.new) }
     ensures answers { IfOk result (λ said. (made : Option Entry) × AnswersAs (command.Whole call) mount.old mount.new
         (D.fault_count disk.old) (D.fault_count disk.new) said made) }
-    ensures image { IsTrue D.told → IfOk result (KeepsImage mount.old mount.new (as_read (D.cells disk.old)) (as_read (D.cells disk.new))) }
-    ensures comes_up { OnOk result (ComesUp D.told (as_read (D.cells disk.old)) mount.old mount.new) }
+    ensures image { IsTrue D.known → IfOk result (KeepsImage mount.old mount.new (as_read (D.cells disk.old)) (as_read (D.cells disk.new))) }
+    ensures comes_up { OnOk result (ComesUp D.known (as_read (D.cells disk.old)) mount.old mount.new) }
     ensures unmade { OnErr result (LeaveStory mount.old mount.new) }
     ensures disk { OnErr result (disk.new ≡ disk.old) }
     ensures sectors { D.sector_count disk.new ≡ D.sector_count disk.old }
@@ -85,13 +85,13 @@ fn answer_line<D: Disk>(
 ) -> Result<Said, NoMemory>
     requires { FitsDisk mount.old (D.sector_count disk.old) }
     ensures fits { FitsDisk mount.new (D.sector_count disk.new) }
-    ensures holds { IsTrue D.told → (image : List Sector) → DiskHolds image mount.old (D.cells disk.old) → DiskHolds image mount.new (D.cells disk.new) }
+    ensures holds { IsTrue D.known → (image : List Sector) → DiskHolds image mount.old (D.cells disk.old) → DiskHolds image mount.new (D.cells disk.new) }
     ensures answers { IfOk result (λ said. (made : Option Entry) × AnswersAs command mount.old mount.new
         (D.fault_count disk.old) (D.fault_count disk.new) said made) }
-    ensures image { IsTrue D.told → IfOk result (KeepsImage mount.old mount.new (as_read (D.cells disk.old)) (as_read (D.cells disk.new))) }
-    ensures comes_up { OnOk result (ComesUp D.told (as_read (D.cells disk.old)) mount.old mount.new) }
+    ensures image { IsTrue D.known → IfOk result (KeepsImage mount.old mount.new (as_read (D.cells disk.old)) (as_read (D.cells disk.new))) }
+    ensures comes_up { OnOk result (ComesUp D.known (as_read (D.cells disk.old)) mount.old mount.new) }
     ensures unmade { OnErr result (LeaveStory mount.old mount.new) }
-    ensures reads { IsTrue D.told → OnErr result (as_read (D.cells disk.new) ≡ as_read (D.cells disk.old)) }
+    ensures reads { IsTrue D.known → OnErr result (as_read (D.cells disk.new) ≡ as_read (D.cells disk.old)) }
     ensures risen { OnErr result (D.fault_count disk.old ≤ D.fault_count disk.new) }
     ensures sectors { D.sector_count disk.new ≡ D.sector_count disk.old }
 {
@@ -131,12 +131,12 @@ impl Run {
     ) -> Result<(), NoMemory>
         requires { FitsDisk self.old.mount (D.sector_count disk.old) }
         ensures fits { FitsDisk self.new.mount (D.sector_count disk.new) }
-        ensures holds { IsTrue D.told → (image : List Sector) → DiskHolds image self.old.mount (D.cells disk.old) → DiskHolds image self.new.mount (D.cells disk.new) }
+        ensures holds { IsTrue D.known → (image : List Sector) → DiskHolds image self.old.mount (D.cells disk.old) → DiskHolds image self.new.mount (D.cells disk.new) }
         ensures goes { OnOk result ((said : Said) × (made : Option Entry) × Goes command self.old self.new
-            (D.fault_count disk.old) (D.fault_count disk.new) said made × KeepsReads D.told self.old self.new (as_read (D.cells disk.old)) (as_read (D.cells disk.new)) said) }
+            (D.fault_count disk.old) (D.fault_count disk.new) said made × KeepsReads D.known self.old self.new (as_read (D.cells disk.old)) (as_read (D.cells disk.new)) said) }
         ensures unmade { OnErr result (LeaveStory self.old.mount self.new.mount) }
         ensures unsaid { OnErr result (self.new.said.items ≡ self.old.said.items) }
-        ensures reads { IsTrue D.told → OnErr result (as_read (D.cells disk.new) ≡ as_read (D.cells disk.old)) }
+        ensures reads { IsTrue D.known → OnErr result (as_read (D.cells disk.new) ≡ as_read (D.cells disk.old)) }
         ensures risen { OnErr result (D.fault_count disk.old ≤ D.fault_count disk.new) }
         ensures sectors { D.sector_count disk.new ≡ D.sector_count disk.old }
     {
@@ -151,8 +151,8 @@ impl Run {
 pub(crate) fn run_lines<D: Disk>(alloc: Global, disk: &mut D, commands: &[Command]) -> (Run, bool)
     ensures walk { (story : List Told) × ((count : ℕ) × IsWalk (take (length result.0.said.items) commands.now) (D.fault_count disk.old) count result.0 story
         × (count ≤ D.fault_count disk.new)) }
-    ensures over { IsWalkOver D.told (as_read (D.cells disk.old)) (as_read (D.cells disk.new)) result.0 }
-    ensures holds { IsTrue D.told → HasOneImage (D.cells disk.old) → DiskHolds (as_read (D.cells disk.old)) result.0.mount (D.cells disk.new) }
+    ensures over { IsWalkOver D.known (as_read (D.cells disk.old)) (as_read (D.cells disk.new)) result.0 }
+    ensures holds { IsTrue D.known → HasOneImage (D.cells disk.old) → DiskHolds (as_read (D.cells disk.old)) result.0.mount (D.cells disk.new) }
     ensures whole { IsTrue result.1 → length result.0.said.items ≡ length commands.now }
     ensures fits { FitsDisk result.0.mount (D.sector_count disk.new) }
     ensures sectors { D.sector_count disk.new ≡ D.sector_count disk.old }

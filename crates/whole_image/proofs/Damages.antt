@@ -89,12 +89,12 @@ lowered lower g image said rule s tells x =
       least = λ other b. x.least other (g, said, tells, b);
     }
 
-told : (image : List Sector) (rule : Rule) (s : ℕ) → FirstDamage image (of_groups rule) s → (g : Geometry) × (said : Log) × Tells g image said
-told image rule s x = (x.broken.0, x.broken.1, x.broken.2)
+unpacked : (image : List Sector) (rule : Rule) (s : ℕ) → FirstDamage image (of_groups rule) s → (g : Geometry) × (said : Log) × Tells g image said
+unpacked image rule s x = (x.broken.0, x.broken.1, x.broken.2)
 
 one_of_groups : Lower → OfGroups → (image : List Sector) (a b : Rule) (s t : ℕ) → FirstDamage image (of_groups a) s → FirstDamage image (of_groups b) t → (of_groups a ≡ of_groups b) × (s ≡ t)
 one_of_groups lower groups image a b s t x y =
-    let at = told image a s x in
+    let at = unpacked image a s x in
     let both = groups.one at.0 (groups_of at.0 image at.1) a b s t (lowered lower at.0 image at.1 a s at.2 x) (lowered lower at.0 image at.1 b t at.2 y) in
     (ap of_groups both.0, both.1)
 
@@ -154,7 +154,7 @@ none lower groups image size s sound x = unbroken lower image size s (omega arit
 none lower groups image anchor s sound x = unbroken lower image anchor s (omega arith) (sound anchor) x.broken
 none lower groups image log s sound x = unbroken lower image log s (omega arith) (sound log) x.broken
 none lower groups image (of_groups a) s sound x =
-    let at = told image a s x in
+    let at = unpacked image a s x in
     groups.none at.0 (groups_of at.0 image at.1) a s (λ rule. sound (of_groups rule) at.0 at.1 at.2) (lowered lower at.0 image at.1 a s at.2 x)
 
 -- ---- what an image tells

@@ -1,4 +1,4 @@
-use Rattle.encoded_changes.proofs.Tables.{row_inode, inode_follows, inode_told, inode_made, made_told}
+use Rattle.encoded_changes.proofs.Tables.{row_inode, inode_follows, inode_carried, inode_made, made_carried}
 use Rattle.encoded_changes.proofs.Prepared.{layouts_prepared}
 use Rattle.encoded_changes.proofs.laws.encodings_follow_the_table.Goals as goal
 
@@ -8,8 +8,8 @@ returns-clause-row c = row_inode
 pub returns-clause-inode : goal.returns-clause-inode
 returns-clause-inode c = inode_follows
 
-pub returns-clause-told : goal.returns-clause-told
-returns-clause-told c = inode_told
+pub returns-clause-carried : goal.returns-clause-carried
+returns-clause-carried c = inode_carried
 
 pub returns-clause-prepared : goal.returns-clause-prepared
 returns-clause-prepared c = layouts_prepared
@@ -17,5 +17,5 @@ returns-clause-prepared c = layouts_prepared
 pub returns-clause-made : goal.returns-clause-made
 returns-clause-made c = inode_made
 
-pub returns-clause-made_told : goal.returns-clause-made_told
-returns-clause-made_told c = made_told
+pub returns-clause-made_carried : goal.returns-clause-made_carried
+returns-clause-made_carried c = made_carried

@@ -6,7 +6,7 @@ use Rattle.image_make.proofs.filling.write_behind.Goals as goal
 
 pub returns-clause-leaves : goal.returns-clause-leaves
 returns-clause-leaves g c =
-    leaves_write g.D.Disk.told g.D.Disk.cells g.D.Disk.sector_count g.D.Disk.moment g.D.Disk.arming g.D.Disk.left_since IsBlank c.args.disk.now c.write.new.self c.write.result
+    leaves_write g.D.Disk.known g.D.Disk.cells g.D.Disk.sector_count g.D.Disk.moment g.D.Disk.arming g.D.Disk.left_since IsBlank c.args.disk.now c.write.new.self c.write.result
     c.args.at c.args.pieces.now c.write.ensures.written c.write.ensures.failed c.write.ensures.time c.write.ensures.sectors c.write.ensures.arming
     (λ tells image is. blank_written c.args.at c.args.pieces.now (g.D.Disk.cells c.args.disk.now) image c.requires.behind (c.requires.blank tells) is)
 

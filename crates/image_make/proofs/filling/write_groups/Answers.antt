@@ -10,12 +10,12 @@ use Rattle.image_make.proofs.filling.write_groups.Goals as goal
 
 pub returns-in_err-write_behind-clause-leaves : goal.returns-in_err-write_behind-clause-leaves
 returns-in_err-write_behind-clause-leaves g c =
-    leaves_both g.D.Disk.told g.D.Disk.cells g.D.Disk.sector_count g.D.Disk.moment g.D.Disk.arming g.D.Disk.left_since IsBlank c.args.disk.now c.loop-group.disk c.write_behind.new.disk
+    leaves_both g.D.Disk.known g.D.Disk.cells g.D.Disk.sector_count g.D.Disk.moment g.D.Disk.arming g.D.Disk.left_since IsBlank c.args.disk.now c.loop-group.disk c.write_behind.new.disk
     c.loop-group.invariant.leaves c.write_behind.ensures.leaves
 
 pub loop-group-preserved : goal.loop-group-preserved
 loop-group-preserved g c = record {
-  leaves = leaves_both g.D.Disk.told g.D.Disk.cells g.D.Disk.sector_count g.D.Disk.moment g.D.Disk.arming g.D.Disk.left_since IsBlank c.args.disk.now c.loop-group.disk c.write_behind.new.disk
+  leaves = leaves_both g.D.Disk.known g.D.Disk.cells g.D.Disk.sector_count g.D.Disk.moment g.D.Disk.arming g.D.Disk.left_since IsBlank c.args.disk.now c.loop-group.disk c.write_behind.new.disk
       c.loop-group.invariant.leaves c.write_behind.ensures.leaves;
   made = λ tells.
       let image : List Sector = as_read (g.D.Disk.cells c.loop-group.disk) in

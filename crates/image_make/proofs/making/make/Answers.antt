@@ -3,22 +3,22 @@ use Rattle.image_make.proofs.Leaving.{leaves_both, leaves_weaker}
 use Rattle.image_make.proofs.Sectors.{begins_blank, begins_unmade}
 use Rattle.image_make.proofs.making.make.Goals as goal
 
-pub make_untold-requires-clause-blank : goal.make_untold-requires-clause-blank
-make_untold-requires-clause-blank g c = λ tells. begins_blank (g.D.Disk.sector_count c.args.disk.now) (g.D.Disk.cells c.args.disk.now) (c.requires.blank tells)
+pub make_without_superblock-requires-clause-blank : goal.make_without_superblock-requires-clause-blank
+make_without_superblock-requires-clause-blank g c = λ tells. begins_blank (g.D.Disk.sector_count c.args.disk.now) (g.D.Disk.cells c.args.disk.now) (c.requires.blank tells)
 
-pub make_untold-requires-clause-zero : goal.make_untold-requires-clause-zero
-make_untold-requires-clause-zero g c = λ tells.
+pub make_without_superblock-requires-clause-zero : goal.make_without_superblock-requires-clause-zero
+make_without_superblock-requires-clause-zero g c = λ tells.
     begins_unmade c.args.g.now (g.D.Disk.sector_count c.args.disk.now) (g.D.Disk.cells c.args.disk.now) c.requires.size (c.requires.blank tells)
 
-pub returns-in_err-make_untold-clause-leaves : goal.returns-in_err-make_untold-clause-leaves
-returns-in_err-make_untold-clause-leaves g c =
-    leaves_weaker g.D.Disk.told g.D.Disk.cells g.D.Disk.sector_count g.D.Disk.moment g.D.Disk.arming g.D.Disk.left_since IsBlank (IsBlankOrEmpty c.args.g.now) c.args.disk.now
-    c.make_untold.new.disk (c.made_images.ensures.blank c.args.g.now) c.make_untold.ensures.leaves
+pub returns-in_err-make_without_superblock-clause-leaves : goal.returns-in_err-make_without_superblock-clause-leaves
+returns-in_err-make_without_superblock-clause-leaves g c =
+    leaves_weaker g.D.Disk.known g.D.Disk.cells g.D.Disk.sector_count g.D.Disk.moment g.D.Disk.arming g.D.Disk.left_since IsBlank (IsBlankOrEmpty c.args.g.now) c.args.disk.now
+    c.make_without_superblock.new.disk (c.made_images.ensures.blank c.args.g.now) c.make_without_superblock.ensures.leaves
 
 pub returns-clause-leaves : goal.returns-clause-leaves
 returns-clause-leaves g c =
-    leaves_both g.D.Disk.told g.D.Disk.cells g.D.Disk.sector_count g.D.Disk.moment g.D.Disk.arming g.D.Disk.left_since (IsBlankOrEmpty c.args.g.now) c.args.disk.now c.make_untold.new.disk
-    c.make_told.new.disk
-    (leaves_weaker g.D.Disk.told g.D.Disk.cells g.D.Disk.sector_count g.D.Disk.moment g.D.Disk.arming g.D.Disk.left_since IsBlank (IsBlankOrEmpty c.args.g.now) c.args.disk.now
-    c.make_untold.new.disk (c.made_images.ensures.blank c.args.g.now) c.make_untold.ensures.leaves)
-    c.make_told.ensures.leaves
+    leaves_both g.D.Disk.known g.D.Disk.cells g.D.Disk.sector_count g.D.Disk.moment g.D.Disk.arming g.D.Disk.left_since (IsBlankOrEmpty c.args.g.now) c.args.disk.now c.make_without_superblock.new.disk
+    c.finish.new.disk
+    (leaves_weaker g.D.Disk.known g.D.Disk.cells g.D.Disk.sector_count g.D.Disk.moment g.D.Disk.arming g.D.Disk.left_since IsBlank (IsBlankOrEmpty c.args.g.now) c.args.disk.now
+    c.make_without_superblock.new.disk (c.made_images.ensures.blank c.args.g.now) c.make_without_superblock.ensures.leaves)
+    c.finish.ensures.leaves

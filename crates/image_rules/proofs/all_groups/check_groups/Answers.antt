@@ -11,29 +11,29 @@ loop-group-preserved g c =
     let l = c.loop-group in
     record {
       read = g.met.V.View.both_read a.view.now l.view c.judge.new.view l.invariant.read c.judge.ensures.only_read;
-      judged = λ told.
+      judged = λ known.
           let stays = g.met.V.View.image_stays a.view.now l.view l.invariant.read in
-          c.first_of-first.ensures.judged a.g.now (g.V.View.image a.view.now) l.group (l.invariant.judged told)
-          (subst (λ (image : List Sector). IsJudged a.g.now image l.group c.in_ok-found.found.damage) stays (c.in_ok-found.ensures.judged told));
-      counted = λ told none.
+          c.first_of-first.ensures.judged a.g.now (g.V.View.image a.view.now) l.group (l.invariant.judged known)
+          (subst (λ (image : List Sector). IsJudged a.g.now image l.group c.in_ok-found.found.damage) stays (c.in_ok-found.ensures.judged known));
+      counted = λ known none.
           let stays = g.met.V.View.image_stays a.view.now l.view l.invariant.read in
           let both = c.first_of-first.ensures.none none in
-          let here = subst (λ (image : List Sector). IsCounted a.g.now image l.group c.in_ok-found.found.tables) stays (c.in_ok-found.ensures.counted told both.1) in
-          counted_more a.g.now (g.V.View.image a.view.now) l.group l.tables c.in_ok-found.found.tables c.in-Some.sum (l.invariant.counted told both.0) here
+          let here = subst (λ (image : List Sector). IsCounted a.g.now image l.group c.in_ok-found.found.tables) stays (c.in_ok-found.ensures.counted known both.1) in
+          counted_more a.g.now (g.V.View.image a.view.now) l.group l.tables c.in_ok-found.found.tables c.in-Some.sum (l.invariant.counted known both.0) here
           c.in-Some.ensures.chunks c.in-Some.ensures.inodes c.in-Some.ensures.orphans;
     }
 
 pub loop-group-init : goal.loop-group-init
 loop-group-init g c = record {
   read = g.met.V.View.no_read c.args.view.now;
-  judged = λ told group lt. absurd (omega arith);
-  counted = λ told none. counted_none c.args.g.now (g.V.View.image c.args.view.now);
+  judged = λ known group lt. absurd (omega arith);
+  counted = λ known none. counted_none c.args.g.now (g.V.View.image c.args.view.now);
 }
 
 pub returns-in-None-clause-counted : goal.returns-in-None-clause-counted
-returns-in-None-clause-counted g c told =
+returns-in-None-clause-counted g c known =
     let a = c.args in
     let l = c.loop-group in
     let e : l.group ≡ a.g.now.groups = omega (arith, l.auto.group-end) in
     whole_tables a.g.now (g.V.View.image a.view.now) l.tables
-    (subst (λ (n : ℕ). AreCounted a.g.now (g.V.View.image a.view.now) n l.tables) e (l.invariant.counted told c.in-None.is))
+    (subst (λ (n : ℕ). AreCounted a.g.now (g.V.View.image a.view.now) n l.tables) e (l.invariant.counted known c.in-None.is))

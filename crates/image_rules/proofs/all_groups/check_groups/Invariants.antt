@@ -6,6 +6,6 @@ use Rattle.image_rules.proofs.all_groups.check_groups.Given as goal
 abbrev pub invariant-loop-group : goal.invariant-loop-group
 invariant-loop-group g l = record {
   read : g.V.View.only_read l.fn.view l.view;
-  judged : IsTrue g.V.View.told → AreJudged l.g (g.V.View.image l.fn.view) l.group l.first;
-  counted : IsTrue g.V.View.told → l.first ≡ None → AreCounted l.g (g.V.View.image l.fn.view) l.group l.tables;
+  judged : IsTrue g.V.View.known → AreJudged l.g (g.V.View.image l.fn.view) l.group l.first;
+  counted : IsTrue g.V.View.known → l.first ≡ None → AreCounted l.g (g.V.View.image l.fn.view) l.group l.tables;
 }

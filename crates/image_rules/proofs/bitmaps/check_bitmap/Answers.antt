@@ -6,13 +6,13 @@ use Rattle.image_rules.proofs.Gathering.{sector_next}
 use Rattle.image_rules.proofs.bitmaps.check_bitmap.Goals as goal
 
 pub returns-in-None-clause-right : goal.returns-in-None-clause-right
-returns-in-None-clause-right g c told free k low =
+returns-in-None-clause-right g c known free k low =
     let a = c.args in
     let image : List Sector = g.V.View.image a.view.now in
     let sectors : List Sector = c.deref.result.now in
     let others : List Sector = c.write_map.new.into in
     let compares : Compares a.g.now image a.group sectors others a.map.now = record {
-      shows = subst (λ (s : ℕ). Shows image s sectors) c.sector_at-at.ensures.place (subst (Shows image c.sector_at-at.result) (sym c.deref.ensures.value) (c.in_ok-sectors.ensures.shown told));
+      shows = subst (λ (s : ℕ). Shows image s sectors) c.sector_at-at.ensures.place (subst (Shows image c.sector_at-at.result) (sym c.deref.ensures.value) (c.in_ok-sectors.ensures.shown known));
       many = ap (λ (l : List Sector). length l) c.deref.ensures.value ∙ c.in_ok-sectors.ensures.many;
       as_many = search rules;
       long = c.have_their_bytes.ensures;
@@ -22,13 +22,13 @@ returns-in-None-clause-right g c told free k low =
     right_from a.g.now image a.group k sectors others a.map.now compares low (c.in-None.ensures.none k (omega (arith, low, compares.many)))
 
 pub returns-clause-fault : goal.returns-clause-fault
-returns-clause-fault g c told free =
+returns-clause-fault g c known free =
     let a = c.args in
     let image : List Sector = g.V.View.image a.view.now in
     let sectors : List Sector = c.deref.result.now in
     let others : List Sector = c.write_map.new.into in
     let compares : Compares a.g.now image a.group sectors others a.map.now = record {
-      shows = subst (λ (s : ℕ). Shows image s sectors) c.sector_at-at.ensures.place (subst (Shows image c.sector_at-at.result) (sym c.deref.ensures.value) (c.in_ok-sectors.ensures.shown told));
+      shows = subst (λ (s : ℕ). Shows image s sectors) c.sector_at-at.ensures.place (subst (Shows image c.sector_at-at.result) (sym c.deref.ensures.value) (c.in_ok-sectors.ensures.shown known));
       many = ap (λ (l : List Sector). length l) c.deref.ensures.value ∙ c.in_ok-sectors.ensures.many;
       as_many = search rules;
       long = c.have_their_bytes.ensures;

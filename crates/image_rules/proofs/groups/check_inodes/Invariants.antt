@@ -9,8 +9,8 @@ use Rattle.image_rules.proofs.groups.check_inodes.Given as goal
 abbrev pub invariant-loop-chunk : goal.invariant-loop-chunk
 invariant-loop-chunk g l = record {
   read : g.V.View.only_read l.fn.view l.view;
-  gathered : IsTrue g.V.View.told → records_of l.g (g.V.View.image l.fn.view) l.group ≡ l.leaf
+  gathered : IsTrue g.V.View.known → records_of l.g (g.V.View.image l.fn.view) l.group ≡ l.leaf
       → IsFound l.g (g.V.View.image l.fn.view) l.group (bound_at l.chunks l.chunk-index) l.found;
-  counted : IsTrue g.V.View.told → records_of l.g (g.V.View.image l.fn.view) l.group ≡ l.leaf
+  counted : IsTrue g.V.View.known → records_of l.g (g.V.View.image l.fn.view) l.group ≡ l.leaf
       → length l.found.links.orphans.entries ≡ sum_by (chunk_orphans l.g (g.V.View.image l.fn.view) l.group) (take l.chunk-index l.chunks);
 }

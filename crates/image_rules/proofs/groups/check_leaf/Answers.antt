@@ -15,32 +15,32 @@ read_sectors-requires-clause-within g c =
     omega (arith, c.from.ensures, c.requires.size, room)
 
 pub returns-in-Err-Malformed-clause-fault : goal.returns-in-Err-Malformed-clause-fault
-returns-in-Err-Malformed-clause-fault g c told right header =
+returns-in-Err-Malformed-clause-fault g c known right header =
     let a = c.args in
     let image : List Sector = g.V.View.image a.view.now in
     let place : page_sector a.g.now image a.group ≡ c.sector_at-at.result = page_at a.g.now image a.group a.agi.now header ∙ sym c.sector_at-at.ensures.place in
     let shows : Shows image (page_sector a.g.now image a.group) c.deref.result.now =
-    subst (λ (s : ℕ). Shows image s c.deref.result.now) (sym place) (subst (Shows image c.sector_at-at.result) (sym c.deref.ensures.value) (c.in_ok-page.ensures.shown told)) in
+    subst (λ (s : ℕ). Shows image s c.deref.result.now) (sym place) (subst (Shows image c.sector_at-at.result) (sym c.deref.ensures.value) (c.in_ok-page.ensures.shown known)) in
     page_first a.g.now image a.group c.sector_at-at.result right (sym place)
     (c.in-Err-Malformed.ensures.wrong image (ap (λ (x : Agi). x.root) header) shows (cc))
 
 pub returns-then-not-has_counts-clause-fault : goal.returns-then-not-has_counts-clause-fault
-returns-then-not-has_counts-clause-fault g c told right header =
+returns-then-not-has_counts-clause-fault g c known right header =
     let a = c.args in
     let image : List Sector = g.V.View.image a.view.now in
     let place : page_sector a.g.now image a.group ≡ c.sector_at-at.result = page_at a.g.now image a.group a.agi.now header ∙ sym c.sector_at-at.ensures.place in
     let shows : Shows image (page_sector a.g.now image a.group) c.deref.result.now =
-    subst (λ (s : ℕ). Shows image s c.deref.result.now) (sym place) (subst (Shows image c.sector_at-at.result) (sym c.deref.ensures.value) (c.in_ok-page.ensures.shown told)) in
+    subst (λ (s : ℕ). Shows image s c.deref.result.now) (sym place) (subst (Shows image c.sector_at-at.result) (sym c.deref.ensures.value) (c.in_ok-page.ensures.shown known)) in
     let page = c.in-Ok.ensures.right image (ap (λ (x : Agi). x.root) header) shows in
     counts_first a.g.now image a.group c.sector_at.result right page.0 c.sector_at.ensures.place
     (λ counts. false≢true (sym c.if-not-has_counts.true ∙ c.has_counts.ensures.1 (counts_to a.g.now image a.group a.agi.now c.in-Ok.leaf header page.1 counts)))
 
 pub returns-clause-right : goal.returns-clause-right
-returns-clause-right g c told header =
+returns-clause-right g c known header =
     let a = c.args in
     let image : List Sector = g.V.View.image a.view.now in
     let place : page_sector a.g.now image a.group ≡ c.sector_at-at.result = page_at a.g.now image a.group a.agi.now header ∙ sym c.sector_at-at.ensures.place in
     let shows : Shows image (page_sector a.g.now image a.group) c.deref.result.now =
-    subst (λ (s : ℕ). Shows image s c.deref.result.now) (sym place) (subst (Shows image c.sector_at-at.result) (sym c.deref.ensures.value) (c.in_ok-page.ensures.shown told)) in
+    subst (λ (s : ℕ). Shows image s c.deref.result.now) (sym place) (subst (Shows image c.sector_at-at.result) (sym c.deref.ensures.value) (c.in_ok-page.ensures.shown known)) in
     let page = c.in-Ok.ensures.right image (ap (λ (x : Agi). x.root) header) shows in
     ((page.0, counts_from a.g.now image a.group a.agi.now c.in-Ok.leaf header page.1 (c.has_counts.ensures.0 c.if-not-has_counts.false)), page.1)

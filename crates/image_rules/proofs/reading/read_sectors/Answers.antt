@@ -15,10 +15,10 @@ loop-index-preserved g c =
     record {
       read = laws.both_read c.args.view.now c.loop-index.view c.read_sector.new.view inv.read c.read_sector.ensures.only_read;
       many = ap (λ (l : List Sector). length l) items ∙ length-append c.loop-index.sectors.items (sector ∷ []) ∙ ap (λ (n : ℕ). n + 1) inv.many;
-      shown = λ told.
+      shown = λ known.
           let same = laws.image_stays c.args.view.now c.loop-index.view inv.read in
           let here : bytes_at image (c.args.at + c.loop-index.index) ≡ sector.bytes =
-          ap (λ (l : List Sector). bytes_at l (c.args.at + c.loop-index.index)) (sym same) ∙ c.in_ok-read_sector.ensures.shown told in
+          ap (λ (l : List Sector). bytes_at l (c.args.at + c.loop-index.index)) (sym same) ∙ c.in_ok-read_sector.ensures.shown known in
           subst (Shows image c.args.at) (sym items)
-          (Shows-push image c.args.at c.loop-index.sectors.items sector (inv.shown told) (ap (λ (n : ℕ). bytes_at image (c.args.at + n)) inv.many ∙ here));
+          (Shows-push image c.args.at c.loop-index.sectors.items sector (inv.shown known) (ap (λ (n : ℕ). bytes_at image (c.args.at + n)) inv.many ∙ here));
     }

@@ -9,9 +9,9 @@ returns-in_err-check_lists-clause-read_fault g c =
     passed_up c.from_residual-in_err-check_lists.result c.in_err-check_lists.field-0.0 (IsCaused before now) c.from_residual-in_err-check_lists.ensures.1 (c.in_err-check_lists.ensures.no_read before now)
 
 pub returns-in_err-check_lists-clause-damaged : goal.returns-in_err-check_lists-clause-damaged
-returns-in_err-check_lists-clause-damaged g c told =
+returns-in_err-check_lists-clause-damaged g c known =
     let a = c.args in
     let image = g.V.View.image a.view.now in
-    let right = c.in_ok-space.ensures.right told in
+    let right = c.in_ok-space.ensures.right known in
     passed_up c.from_residual-in_err-check_lists.result c.in_err-check_lists.field-0.0 (FaultIn a.g.now image a.group) c.from_residual-in_err-check_lists.ensures.1
     (c.in_err-check_lists.ensures.fault image right.0 right.1 right.2)

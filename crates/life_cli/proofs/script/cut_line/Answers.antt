@@ -13,24 +13,24 @@ nothing n text past = behind n text ∙ drop_all n text past
 
 pub returns-then-end-text-clause-line : goal.returns-then-end-text-clause-line
 returns-then-end-text-clause-line c =
-    let told = c.line_end-end.ensures in
+    let known = c.line_end-end.ensures in
     rw (behind (c.line_end-end.result + 1) c.args.text.now)
-    (ap commands_of (lines_of-cut c.args.text.now c.line_end-end.result (c.line_end-end.result + 1) (omega arith) c.if-end-text.true told.before (told.found c.if-end-text.true)))
+    (ap commands_of (lines_of-cut c.args.text.now c.line_end-end.result (c.line_end-end.result + 1) (omega arith) c.if-end-text.true known.before (known.found c.if-end-text.true)))
 
 pub returns-then-end-text-clause-number : goal.returns-then-end-text-clause-number
 returns-then-end-text-clause-number c n =
-    let told = c.line_end-end.ensures in
+    let known = c.line_end-end.ensures in
     rw (behind (c.line_end-end.result + 1) c.args.text.now)
-    (ap (first_outside n) (lines_of-cut c.args.text.now c.line_end-end.result (c.line_end-end.result + 1) (omega arith) c.if-end-text.true told.before (told.found c.if-end-text.true)))
+    (ap (first_outside n) (lines_of-cut c.args.text.now c.line_end-end.result (c.line_end-end.result + 1) (omega arith) c.if-end-text.true known.before (known.found c.if-end-text.true)))
 
 pub returns-else-end-text-clause-line : goal.returns-else-end-text-clause-line
 returns-else-end-text-clause-line c =
-    let told = c.line_end-end.ensures in
+    let known = c.line_end-end.ensures in
     rw (nothing c.line_end-end.result c.args.text.now c.if-end-text.false)
-    (ap commands_of (lines_of-whole c.args.text.now (λ k h. told.before k (omega arith))))
+    (ap commands_of (lines_of-whole c.args.text.now (λ k h. known.before k (omega arith))))
 
 pub returns-else-end-text-clause-number : goal.returns-else-end-text-clause-number
 returns-else-end-text-clause-number c n =
-    let told = c.line_end-end.ensures in
+    let known = c.line_end-end.ensures in
     rw (nothing c.line_end-end.result c.args.text.now c.if-end-text.false)
-    (ap (first_outside n) (lines_of-whole c.args.text.now (λ k h. told.before k (omega arith))))
+    (ap (first_outside n) (lines_of-whole c.args.text.now (λ k h. known.before k (omega arith))))

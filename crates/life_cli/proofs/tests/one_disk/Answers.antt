@@ -7,6 +7,6 @@ use Rattle.life_cli.proofs.tests.one_disk.Goals as goal
 
 -- a disk of zero bytes has one image
 pub add-requires-clause-one_image : goal.add-requires-clause-one_image
-add-requires-clause-one_image c told =
+add-requires-clause-one_image c known =
     subst (λ (disk : DiskRecord). HasOneImage (cells_of disk)) (sym (c.new-disk.ensures.inner ∙ c.in_ok-blank.ensures))
     (HasOneImage-settled_as (replicate c.args.sectors zero_sector))

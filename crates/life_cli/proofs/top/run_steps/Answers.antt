@@ -11,20 +11,20 @@ returns-in-Err-clause-replies g c =
 
 pub returns-in-Ok-attach-clause-legal : goal.returns-in-Ok-attach-clause-legal
 returns-in-Ok-attach-clause-legal g c =
-    legal_at g.I.Disk.Disk.told (g.I.Disk.Disk.cells c.in-Ok-attach.disk) (g.I.Images.image_at c.args.images.now c.args.path.now)
+    legal_at g.I.Disk.Disk.known (g.I.Disk.Disk.cells c.in-Ok-attach.disk) (g.I.Images.image_at c.args.images.now c.args.path.now)
     c.in-Ok-attach.ensures.image c.run_over.result.mounts.items c.run_over.ensures.legal
 
 pub returns-in-Ok-attach-clause-damaged : goal.returns-in-Ok-attach-clause-damaged
 returns-in-Ok-attach-clause-damaged g c =
-    fit_at g.I.Disk.Disk.told (g.I.Disk.Disk.cells c.in-Ok-attach.disk) (g.I.Images.image_at c.args.images.now c.args.path.now)
+    fit_at g.I.Disk.Disk.known (g.I.Disk.Disk.cells c.in-Ok-attach.disk) (g.I.Images.image_at c.args.images.now c.args.path.now)
     c.in-Ok-attach.ensures.image c.run_over.result.said.items c.run_over.ensures.damaged
 
 pub returns-in-Ok-attach-clause-log : goal.returns-in-Ok-attach-clause-log
 returns-in-Ok-attach-clause-log g c =
-    logged_on g.I.Disk.Disk.sector_count g.I.Disk.Disk.told (g.I.Disk.Disk.cells c.in-Ok-attach.disk) (g.I.Images.image_at c.args.images.now c.args.path.now)
+    logged_on g.I.Disk.Disk.sector_count g.I.Disk.Disk.known (g.I.Disk.Disk.cells c.in-Ok-attach.disk) (g.I.Images.image_at c.args.images.now c.args.path.now)
     c.in-Ok-attach.ensures.image c.run_over.result.disk c.run_over.result.mounts.items c.run_over.ensures.log
 
 pub returns-in-Ok-attach-clause-wherever : goal.returns-in-Ok-attach-clause-wherever
 returns-in-Ok-attach-clause-wherever g c =
-    left_at g.I.Disk.Disk.told (g.I.Disk.Disk.cells c.in-Ok-attach.disk) (g.I.Images.image_at c.args.images.now c.args.path.now)
+    left_at g.I.Disk.Disk.known (g.I.Disk.Disk.cells c.in-Ok-attach.disk) (g.I.Images.image_at c.args.images.now c.args.path.now)
     c.in-Ok-attach.ensures.image c.in-Ok-attach.ensures.one_image g.I.Disk.Disk.cells c.run_over.result.disk c.run_over.result.mounts.items c.run_over.ensures.wherever

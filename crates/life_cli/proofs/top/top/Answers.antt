@@ -42,10 +42,10 @@ returns-in-Some-Steps-clause-complete g c path is =
 pub returns-in-Some-Make-clause-makes : goal.returns-in-Some-Make-clause-makes
 returns-in-Some-Make-clause-makes g c path geometry is =
     at_one
-    (λ (p : List ℕ) (k : Geometry). Makes g.I.Disk.Disk.told g.I.Disk.Disk.cells g.I.Disk.Disk.sector_count g.I.Disk.Disk.fault_count p k
+    (λ (p : List ℕ) (k : Geometry). Makes g.I.Disk.Disk.known g.I.Disk.Disk.cells g.I.Disk.Disk.sector_count g.I.Disk.Disk.fault_count p k
     (g.I.Images.given c.args.images.now) (g.I.Images.given c.run_make.new.images) c.write_make.result.disk c.write_make.result.status) c.args.words.now
     c.in-Some-Make.path.now path c.in-Some-Make.geometry geometry (rw c.in-Some-Make.field-0-is at c.in-Some-Make.ensures) is
-    (Makes-written g.I.Disk.Disk.told g.I.Disk.Disk.cells g.I.Disk.Disk.sector_count g.I.Disk.Disk.fault_count c.in-Some-Make.path.now c.in-Some-Make.geometry
+    (Makes-written g.I.Disk.Disk.known g.I.Disk.Disk.cells g.I.Disk.Disk.sector_count g.I.Disk.Disk.fault_count c.in-Some-Make.path.now c.in-Some-Make.geometry
     (g.I.Images.given c.args.images.now) (g.I.Images.given c.run_make.new.images) c.run_make.result.disk c.write_make.result.disk
     c.write_make.result.status c.run_make.result.status c.write_make.ensures.disk c.write_make.ensures.status c.run_make.ensures.makes)
 
@@ -54,13 +54,13 @@ returns-in-Some-Make-clause-made_output g c path geometry is =
     let own = c.run_make.result.status in
     at_one
     (λ (p : List ℕ) (k : Geometry). (o : Status) × Yields c.write_make.result.status o
-    × Makes g.I.Disk.Disk.told g.I.Disk.Disk.cells g.I.Disk.Disk.sector_count g.I.Disk.Disk.fault_count p k
+    × Makes g.I.Disk.Disk.known g.I.Disk.Disk.cells g.I.Disk.Disk.sector_count g.I.Disk.Disk.fault_count p k
     (g.I.Images.given c.args.images.now) (g.I.Images.given c.run_make.new.images) c.write_make.result.disk o
     × IsWritten (g.K.Sink.bytes_held c.args.out.now) (g.K.Sink.bytes_held c.write_make.new.out) (make_lines (sectors_of k)) o c.write_make.result.status)
     c.args.words.now c.in-Some-Make.path.now path c.in-Some-Make.geometry geometry (rw c.in-Some-Make.field-0-is at c.in-Some-Make.ensures) is (
       own,
       c.write_make.ensures.status,
-      Makes-on g.I.Disk.Disk.told g.I.Disk.Disk.cells g.I.Disk.Disk.sector_count g.I.Disk.Disk.fault_count c.in-Some-Make.path.now c.in-Some-Make.geometry
+      Makes-on g.I.Disk.Disk.known g.I.Disk.Disk.cells g.I.Disk.Disk.sector_count g.I.Disk.Disk.fault_count c.in-Some-Make.path.now c.in-Some-Make.geometry
           (g.I.Images.given c.args.images.now) (g.I.Images.given c.run_make.new.images) c.run_make.result.disk c.write_make.result.disk own
           c.write_make.ensures.disk c.run_make.ensures.makes,
       c.write_make.ensures.output,
@@ -74,13 +74,13 @@ returns-in-None-clause-output g c no_make = (c.ended_early.result.status, c.writ
 
 pub returns-in-Some-Make-clause-handed_back : goal.returns-in-Some-Make-clause-handed_back
 returns-in-Some-Make-clause-handed_back g c =
-    let written = Makes-written g.I.Disk.Disk.told g.I.Disk.Disk.cells g.I.Disk.Disk.sector_count g.I.Disk.Disk.fault_count c.in-Some-Make.path.now c.in-Some-Make.geometry
+    let written = Makes-written g.I.Disk.Disk.known g.I.Disk.Disk.cells g.I.Disk.Disk.sector_count g.I.Disk.Disk.fault_count c.in-Some-Make.path.now c.in-Some-Make.geometry
     (g.I.Images.given c.args.images.now) (g.I.Images.given c.run_make.new.images) c.run_make.result.disk c.write_make.result.disk
     c.write_make.result.status c.run_make.result.status c.write_make.ensures.disk c.write_make.ensures.status c.run_make.ensures.makes in
     let early : IsEarly c.write_make.result.mounts.items c.write_make.result.said.items = record {
       no_mount = c.write_make.ensures.mounts ∙ c.run_make.ensures.early.no_mount;
       no_answer = c.write_make.ensures.said ∙ c.run_make.ensures.early.no_answer;
     } in
-    created_back g.I.Disk.Disk.told g.I.Disk.Disk.cells g.I.Disk.Disk.sector_count g.I.Disk.Disk.fault_count c.args.words.now c.in-Some-Make.path.now
+    created_back g.I.Disk.Disk.known g.I.Disk.Disk.cells g.I.Disk.Disk.sector_count g.I.Disk.Disk.fault_count c.args.words.now c.in-Some-Make.path.now
     c.in-Some-Make.geometry (g.I.Images.given c.args.images.now) (g.I.Images.given c.run_make.new.images) c.write_make.result.disk c.write_make.result.status
     _ (rw c.in-Some-Make.field-0-is at c.in-Some-Make.ensures) early written

@@ -5,7 +5,7 @@ use Rattle.recovery.proofs.reading.read_sectors.Given as goal
 
 abbrev pub invariant-loop-i : goal.invariant-loop-i
 invariant-loop-i g l = record {
-  only : OnlyRead g.D.Disk.told g.D.Disk.cells g.D.Disk.sector_count g.D.Disk.fault_count g.D.Disk.arming g.D.Disk.moment g.D.Disk.left_since l.fn.disk l.disk;
+  only : OnlyRead g.D.Disk.known g.D.Disk.cells g.D.Disk.sector_count g.D.Disk.fault_count g.D.Disk.arming g.D.Disk.moment g.D.Disk.left_since l.fn.disk l.disk;
   size : length l.read.items ≡ l.i;
-  read : IsTrue g.D.Disk.told → l.read.items ≡ take l.i (drop l.from (as_read (g.D.Disk.cells l.fn.disk)));
+  read : IsTrue g.D.Disk.known → l.read.items ≡ take l.i (drop l.from (as_read (g.D.Disk.cells l.fn.disk)));
 }

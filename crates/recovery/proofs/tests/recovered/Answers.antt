@@ -7,12 +7,12 @@ use Rattle.recovery.specs.Scan.{anchor_of}
 use Rattle.recovery.proofs.tests.recovered.Goals as goal
 
 pub replay-start-requires-clause-found : goal.replay-start-requires-clause-found
-replay-start-requires-clause-found g c told =
+replay-start-requires-clause-found g c known =
     let d = g.D.Disk in
     let same : as_read (d.cells c.flush.new.self) ≡ as_read (d.cells c.args.disk.now) =
-    ap as_read (c.in-Ok-flush.ensures.flushed told) ∙ as_read-flushed (d.cells c.scan.new.disk) ∙ ap as_read c.scan.ensures.only_reads.cells_stay in
-    subst (λ (l : List Sector). IsFound l (anchor_of c.geometry-g.result) c.geometry-g.result.ring c.in-Ok.found) (sym same) (c.in-Ok.ensures.found told)
+    ap as_read (c.in-Ok-flush.ensures.flushed known) ∙ as_read-flushed (d.cells c.scan.new.disk) ∙ ap as_read c.scan.ensures.only_reads.cells_stay in
+    subst (λ (l : List Sector). IsFound l (anchor_of c.geometry-g.result) c.geometry-g.result.ring c.in-Ok.found) (sym same) (c.in-Ok.ensures.found known)
 
 pub replay-start-requires-clause-one : goal.replay-start-requires-clause-one
-replay-start-requires-clause-one g c told =
-    subst HasOneImage (sym (c.in-Ok-flush.ensures.flushed told)) (HasOneImage-flushed (g.D.Disk.cells c.scan.new.disk))
+replay-start-requires-clause-one g c known =
+    subst HasOneImage (sym (c.in-Ok-flush.ensures.flushed known)) (HasOneImage-flushed (g.D.Disk.cells c.scan.new.disk))

@@ -21,7 +21,7 @@ loop-at-preserved g c =
       counted = inv.counted;
       faults = omega (arith, inv.faults, c.read.ensures.cause.never_falls);
       size = ap (λ (l : List Sector). length l) items ∙ length-append c.loop-at.image.items (c.read.new.into ∷ []) ∙ ap (λ (n : ℕ). n + 1) inv.size;
-      read = λ told. items ∙ ap (λ (l : List Sector). l ++ c.read.new.into ∷ []) (inv.read told)
+      read = λ known. items ∙ ap (λ (l : List Sector). l ++ c.read.new.into ∷ []) (inv.read known)
           ∙ sym (one_more (as_read (g.D.Disk.cells c.args.disk.now)) c.loop-at.at c.read.new.into
-          (subst (λ (cells : List Cell). slice_get (as_read cells) c.loop-at.at ≡ Some c.read.new.into) inv.cells (c.in_ok-read.ensures.read told)));
+          (subst (λ (cells : List Cell). slice_get (as_read cells) c.loop-at.at ≡ Some c.read.new.into) inv.cells (c.in_ok-read.ensures.read known)));
     }

@@ -9,5 +9,5 @@ invariant-loop-at g l = record {
   counted : l.at-end ≡ g.D.Disk.sector_count l.fn.disk;
   faults : g.D.Disk.fault_count l.fn.disk ≤ g.D.Disk.fault_count l.disk;
   size : length l.image.items ≡ l.at;
-  read : IsTrue g.D.Disk.told → l.image.items ≡ take l.at (as_read (g.D.Disk.cells l.fn.disk));
+  read : IsTrue g.D.Disk.known → l.image.items ≡ take l.at (as_read (g.D.Disk.cells l.fn.disk));
 }

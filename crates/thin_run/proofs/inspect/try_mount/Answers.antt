@@ -37,9 +37,9 @@ returns-clause-fresh g c =
       origin_of found,
       subst (λ (n : ℕ). IsFresh n (origin_of found) c.mount_of.result) c.sectors-sectors.ensures
           (IsFresh-found c.sectors-sectors.result found c.mount_of.result c.mount_of.ensures.found),
-      (λ told. subst (λ (l : List Sector). Begins l (origin_of found)) (c.deref.ensures.value ∙ c.in-Ok.ensures.image told) (Begins-found image found flags replays)),
+      (λ known. subst (λ (l : List Sector). Begins l (origin_of found)) (c.deref.ensures.value ∙ c.in-Ok.ensures.image known) (Begins-found image found flags replays)),
     )
 
 pub returns-clause-same : goal.returns-clause-same
-returns-clause-same g c told =
-    ap as_read (c.in-Ok-flush.ensures.flushed told) ∙ as_read-flushed (g.D.Disk.cells c.read_image.new.disk) ∙ ap as_read c.read_image.ensures.cells
+returns-clause-same g c known =
+    ap as_read (c.in-Ok-flush.ensures.flushed known) ∙ as_read-flushed (g.D.Disk.cells c.read_image.new.disk) ∙ ap as_read c.read_image.ensures.cells

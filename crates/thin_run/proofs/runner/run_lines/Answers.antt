@@ -12,8 +12,8 @@ use Rattle.thin_run.proofs.Walks.{at_ok, at_err, IsWalk-goes, IsWalkOver-goes, I
 use Rattle.thin_run.proofs.runner.run_lines.Goals as goal
 
 -- before the first line
-begun : (told : Bool) (image : List Sector) (said : Vec Said Global) → said.items ≡ [] → IsWalkOver told image image (record { mount = None; said = said })
-begun told image said none = record {
+begun : (known : Bool) (image : List Sector) (said : Vec Said Global) → said.items ≡ [] → IsWalkOver known image image (record { mount = None; said = said })
+begun known image said none = record {
   origin = (record { first = []; start = 0; base = 0 }, tt, (λ yes some. absurd (true≢false (sym some))));
   fits = λ yes. subst (λ (l : List Said). MountsFit image l) (sym none) tt;
   reads = λ yes up. refl;
@@ -24,13 +24,13 @@ loop-command-init g c = record {
   walk = (
     [],
     record {
-      told = record { lines = refl; answers = sym c.new.ensures.items; made = refl };
+      known = record { lines = refl; answers = sym c.new.ensures.items; made = refl };
       answers = refl;
       causes = refl;
     },
   );
-  over = begun g.D.Disk.told (as_read (g.D.Disk.cells c.args.disk.now)) c.new.result c.new.ensures.items;
-  holds = λ told one. (one, refl);
+  over = begun g.D.Disk.known (as_read (g.D.Disk.cells c.args.disk.now)) c.new.result c.new.ensures.items;
+  holds = λ known one. (one, refl);
   said = ap (λ (l : List Said). length l) c.new.ensures.items;
   fits = tt;
   sectors = refl;
@@ -59,8 +59,8 @@ returns-then-is_err-clause-over g c =
     let ill = sym c.is_err.ensures.value ∙ c.if-is_err.true in
     let left = at_err c.line.result ill c.line.ensures.unmade in
     let unsaid = at_err c.line.result ill c.line.ensures.unsaid in
-    IsWalkOver-left g.D.Disk.told (as_read (g.D.Disk.cells c.args.disk.now)) (as_read (g.D.Disk.cells c.loop-command.disk)) (as_read (g.D.Disk.cells c.line.new.disk))
-    c.loop-command.run c.line.new.self left unsaid (λ told. at_err c.line.result ill (c.line.ensures.reads told)) c.loop-command.invariant.over
+    IsWalkOver-left g.D.Disk.known (as_read (g.D.Disk.cells c.args.disk.now)) (as_read (g.D.Disk.cells c.loop-command.disk)) (as_read (g.D.Disk.cells c.line.new.disk))
+    c.loop-command.run c.line.new.self left unsaid (λ known. at_err c.line.result ill (c.line.ensures.reads known)) c.loop-command.invariant.over
 
 pub loop-command-preserved : goal.loop-command-preserved
 loop-command-preserved g c =
@@ -78,9 +78,9 @@ loop-command-preserved g c =
     c.loop-command.run c.line.new.self walk.0 one goes.0 goes.1 walk.1 goes.2 in
     record {
       walk = (story, subst (λ (commands : List Command). IsWalk commands before after c.line.new.self story) (sym lines) goes_on);
-      over = IsWalkOver-goes g.D.Disk.told (as_read (g.D.Disk.cells c.args.disk.now)) (as_read (g.D.Disk.cells c.loop-command.disk)) (as_read (g.D.Disk.cells c.line.new.disk))
+      over = IsWalkOver-goes g.D.Disk.known (as_read (g.D.Disk.cells c.args.disk.now)) (as_read (g.D.Disk.cells c.loop-command.disk)) (as_read (g.D.Disk.cells c.line.new.disk))
           middle after c.loop-command.run c.line.new.self one goes.0 goes.1 goes.2 c.loop-command.invariant.over goes.3;
-      holds = λ told one. c.line.ensures.holds told (as_read (g.D.Disk.cells c.args.disk.now)) (c.loop-command.invariant.holds told one);
+      holds = λ known one. c.line.ensures.holds known (as_read (g.D.Disk.cells c.args.disk.now)) (c.loop-command.invariant.holds known one);
       said = ap (λ (l : List Said). length l) goes.2.said ∙ length-append c.loop-command.run.said.items (goes.0 ∷ [])
           ∙ ap (λ (n : ℕ). n + 1) c.loop-command.invariant.said;
       fits = c.line.ensures.fits;

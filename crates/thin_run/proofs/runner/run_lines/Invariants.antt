@@ -8,8 +8,8 @@ use Rattle.thin_run.proofs.runner.run_lines.Given as goal
 abbrev pub invariant-loop-command : goal.invariant-loop-command
 invariant-loop-command g l = record {
   walk : (story : List Told) × IsWalk (take l.command-index l.commands) (g.D.Disk.fault_count l.fn.disk) (g.D.Disk.fault_count l.disk) l.run story;
-  over : IsWalkOver g.D.Disk.told (as_read (g.D.Disk.cells l.fn.disk)) (as_read (g.D.Disk.cells l.disk)) l.run;
-  holds : IsTrue g.D.Disk.told → HasOneImage (g.D.Disk.cells l.fn.disk) → DiskHolds (as_read (g.D.Disk.cells l.fn.disk)) l.run.mount (g.D.Disk.cells l.disk);
+  over : IsWalkOver g.D.Disk.known (as_read (g.D.Disk.cells l.fn.disk)) (as_read (g.D.Disk.cells l.disk)) l.run;
+  holds : IsTrue g.D.Disk.known → HasOneImage (g.D.Disk.cells l.fn.disk) → DiskHolds (as_read (g.D.Disk.cells l.fn.disk)) l.run.mount (g.D.Disk.cells l.disk);
   said : length l.run.said.items ≡ l.command-index;
   fits : FitsDisk l.run.mount (g.D.Disk.sector_count l.disk);
   sectors : g.D.Disk.sector_count l.disk ≡ g.D.Disk.sector_count l.fn.disk;

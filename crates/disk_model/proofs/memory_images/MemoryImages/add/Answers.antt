@@ -6,9 +6,9 @@ use Rattle.disk_model.proofs.ByPath.{by_path-same, by_path-others}
 use Rattle.disk_model.proofs.memory_images.MemoryImages.add.Goals as goal
 
 pub invariant_of-self : goal.invariant_of-self
-invariant_of-self g c told =
+invariant_of-self g c known =
     rw c.in-Ok-insert.ensures.entries
-    (All-values-insert_entry string_cmp c.in-Ok.key c.args.disk (λ disk. HasOneImage (g.D.Disk.cells disk)) _ (c.self.invariant told) (c.requires.one_image told))
+    (All-values-insert_entry string_cmp c.in-Ok.key c.args.disk (λ disk. HasOneImage (g.D.Disk.cells disk)) _ (c.self.invariant known) (c.requires.one_image known))
 
 pub returns-in-Ok-insert-clause-stands : goal.returns-in-Ok-insert-clause-stands
 returns-in-Ok-insert-clause-stands g c =

@@ -10,9 +10,9 @@ returns-in_default-clause-failed g c failed =
     inr (rw (← c.self.view_is) (lookup-by_path c.self.inside.disks.entries c.args.path.now ∙ sym c.in_default.ensures.value))
 
 pub invariant_of-self-2 : goal.invariant_of-self-2
-invariant_of-self-2 g c told =
+invariant_of-self-2 g c known =
     rw c.in-Some-remove.ensures.entries
-    (All-map-remove_entry _ (λ entry. entry.1) (λ disk. HasOneImage (g.D.Disk.cells disk)) c.self.inside.disks.entries (c.self.invariant told))
+    (All-map-remove_entry _ (λ entry. entry.1) (λ disk. HasOneImage (g.D.Disk.cells disk)) c.self.inside.disks.entries (c.self.invariant known))
 
 pub returns-clause-disk : goal.returns-clause-disk
 returns-clause-disk g c =
@@ -29,9 +29,9 @@ returns-clause-apart g c other differs =
     rw (← c.self.view_is) (by_path-others c.self.inside.disks c.remove.new.self c.args.path.now None c.in-Some-remove.ensures.updates other differs)
 
 pub returns-clause-image : goal.returns-clause-image
-returns-clause-image g c told =
-    IfSome-image_of g.D.Disk.told g.D.Disk.cells (disk_at c.args.self.now c.args.path.now) c.in-Some-remove.disk (returns-clause-disk g c)
-    (known_of_found (λ disk. HasOneImage (g.D.Disk.cells disk)) _ c.self.inside.disks.entries c.in-Some-remove.disk (c.self.invariant told) (sym c.in-Some-remove.ensures.value))
+returns-clause-image g c known =
+    IfSome-image_of g.D.Disk.known g.D.Disk.cells (disk_at c.args.self.now c.args.path.now) c.in-Some-remove.disk (returns-clause-disk g c)
+    (known_of_found (λ disk. HasOneImage (g.D.Disk.cells disk)) _ c.self.inside.disks.entries c.in-Some-remove.disk (c.self.invariant known) (sym c.in-Some-remove.ensures.value))
 
 pub returns-in_err-note-clause-absent : goal.returns-in_err-note-clause-absent
 returns-in_err-note-clause-absent g c absent =

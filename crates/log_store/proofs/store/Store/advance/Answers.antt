@@ -10,4 +10,4 @@ down_idle : (stage : Stage) (fault : ℕ) → stage ≡ Down fault → JobFits s
 down_idle stage fault is = subst (λ (st : Stage). JobFits st Idle) (sym is) tt
 
 pub returns-in-Down-clause-goes : goal.returns-in-Down-clause-goes
-returns-in-Down-clause-goes g c = goes_job g.D.Disk.told g.D.Disk.cells g.D.Disk.sector_count g.D.Disk.moment g.D.Disk.left_since c.args.self.now Idle c.requires.store (down_idle c.args.self.now.stage c.in-Down.fault c.in-Down.is) tt
+returns-in-Down-clause-goes g c = goes_job g.D.Disk.known g.D.Disk.cells g.D.Disk.sector_count g.D.Disk.moment g.D.Disk.left_since c.args.self.now Idle c.requires.store (down_idle c.args.self.now.stage c.in-Down.fault c.in-Down.is) tt

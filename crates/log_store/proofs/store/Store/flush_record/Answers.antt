@@ -99,11 +99,11 @@ returns-then-is_empty-clause-goes g c =
     let disk = c.flush.new.self in
     let flight : IsInFlight s old.sectors.items old.count =
     subst (λ (st : Stage). StageFits st s old.sectors.items old.count) c.requires.stage sound.stage in
-    let held : IsTrue g.D.Disk.told → (before : List Cell) × Flies s before × (cells ≡ fully_written s before) = λ tells.
+    let held : IsTrue g.D.Disk.known → (before : List Cell) × Flies s before × (cells ≡ fully_written s before) = λ tells.
     subst (λ (st : Stage). HoldsAtStage st s cells) c.requires.stage (c.requires.store.holds tells) in
     let ring_some : 0 < old.ring = omega (arith, flight.room) in
-    let ring_fits : IsTrue g.D.Disk.told → RingFits s cells = λ tells. record { some = ring_some; place = omega (arith, sound.place, g.met.D.Disk.cells_fit tells old.disk) } in
-    let before_fits : (tells : IsTrue g.D.Disk.told) → RingFits s (held tells).0 = λ tells. record {
+    let ring_fits : IsTrue g.D.Disk.known → RingFits s cells = λ tells. record { some = ring_some; place = omega (arith, sound.place, g.met.D.Disk.cells_fit tells old.disk) } in
+    let before_fits : (tells : IsTrue g.D.Disk.known) → RingFits s (held tells).0 = λ tells. record {
       some = ring_some;
       place = omega (
         arith,
@@ -114,12 +114,12 @@ returns-then-is_empty-clause-goes g c =
         length-written (place_of s.anchor s.ring s.head) (first_part s.ring (item_of s)) (held tells).0,
       );
     } in
-    let images : IsTrue g.D.Disk.told → (image : List Sector) → IsImage cells image → ReplaysTo s cells image = λ tells image is.
+    let images : IsTrue g.D.Disk.known → (image : List Sector) → IsImage cells image → ReplaysTo s cells image = λ tells image is.
     c.states.ensures.replays s cells image (c.requires.store.holds tells) (ring_fits tells) (λ at. absurd (record_cover (sym c.requires.stage ∙ at))) is in
-    let whole : IsTrue g.D.Disk.told → AtRest (landed s) (g.D.Disk.cells disk) = λ tells.
+    let whole : IsTrue g.D.Disk.known → AtRest (landed s) (g.D.Disk.cells disk) = λ tells.
     subst (λ (cs : List Cell). AtRest (landed s) cs) (ap flushed (sym (held tells).2) ∙ sym (c.in-Ok.ensures.flushed tells))
     (c.flights.ensures.landed s (held tells).0 (held tells).1 (before_fits tells) sound.rises) in
-    let base : (tells : IsTrue g.D.Disk.told) → base_of (landed s) (g.D.Disk.cells disk) ≡ overlaid (base_of s cells) (commit_images (take s.taken s.list)) = λ tells.
+    let base : (tells : IsTrue g.D.Disk.known) → base_of (landed s) (g.D.Disk.cells disk) ≡ overlaid (base_of s cells) (commit_images (take s.taken s.list)) = λ tells.
     ap (base_of (landed s)) (c.in-Ok.ensures.flushed tells ∙ ap flushed (held tells).2)
     ∙ c.flights.ensures.base s (held tells).0 (held tells).1 (before_fits tells) sound.rises
     ∙ ap (λ (b : List Sector). overlaid b (commit_images (take s.taken s.list)))
@@ -200,11 +200,11 @@ returns-else-is_empty-clause-goes g c =
     let disk = c.flush.new.self in
     let flight : IsInFlight s old.sectors.items old.count =
     subst (λ (st : Stage). StageFits st s old.sectors.items old.count) c.requires.stage sound.stage in
-    let held : IsTrue g.D.Disk.told → (before : List Cell) × Flies s before × (cells ≡ fully_written s before) = λ tells.
+    let held : IsTrue g.D.Disk.known → (before : List Cell) × Flies s before × (cells ≡ fully_written s before) = λ tells.
     subst (λ (st : Stage). HoldsAtStage st s cells) c.requires.stage (c.requires.store.holds tells) in
     let ring_some : 0 < old.ring = omega (arith, flight.room) in
-    let ring_fits : IsTrue g.D.Disk.told → RingFits s cells = λ tells. record { some = ring_some; place = omega (arith, sound.place, g.met.D.Disk.cells_fit tells old.disk) } in
-    let before_fits : (tells : IsTrue g.D.Disk.told) → RingFits s (held tells).0 = λ tells. record {
+    let ring_fits : IsTrue g.D.Disk.known → RingFits s cells = λ tells. record { some = ring_some; place = omega (arith, sound.place, g.met.D.Disk.cells_fit tells old.disk) } in
+    let before_fits : (tells : IsTrue g.D.Disk.known) → RingFits s (held tells).0 = λ tells. record {
       some = ring_some;
       place = omega (
         arith,
@@ -215,12 +215,12 @@ returns-else-is_empty-clause-goes g c =
         length-written (place_of s.anchor s.ring s.head) (first_part s.ring (item_of s)) (held tells).0,
       );
     } in
-    let images : IsTrue g.D.Disk.told → (image : List Sector) → IsImage cells image → ReplaysTo s cells image = λ tells image is.
+    let images : IsTrue g.D.Disk.known → (image : List Sector) → IsImage cells image → ReplaysTo s cells image = λ tells image is.
     c.states.ensures.replays s cells image (c.requires.store.holds tells) (ring_fits tells) (λ at. absurd (record_cover (sym c.requires.stage ∙ at))) is in
-    let whole : IsTrue g.D.Disk.told → AtRest (landed s) (g.D.Disk.cells disk) = λ tells.
+    let whole : IsTrue g.D.Disk.known → AtRest (landed s) (g.D.Disk.cells disk) = λ tells.
     subst (λ (cs : List Cell). AtRest (landed s) cs) (ap flushed (sym (held tells).2) ∙ sym (c.in-Ok.ensures.flushed tells))
     (c.flights.ensures.landed s (held tells).0 (held tells).1 (before_fits tells) sound.rises) in
-    let base : (tells : IsTrue g.D.Disk.told) → base_of (landed s) (g.D.Disk.cells disk) ≡ overlaid (base_of s cells) (commit_images (take s.taken s.list)) = λ tells.
+    let base : (tells : IsTrue g.D.Disk.known) → base_of (landed s) (g.D.Disk.cells disk) ≡ overlaid (base_of s cells) (commit_images (take s.taken s.list)) = λ tells.
     ap (base_of (landed s)) (c.in-Ok.ensures.flushed tells ∙ ap flushed (held tells).2)
     ∙ c.flights.ensures.base s (held tells).0 (held tells).1 (before_fits tells) sound.rises
     ∙ ap (λ (b : List Sector). overlaid b (commit_images (take s.taken s.list)))
@@ -341,11 +341,11 @@ returns-in-Err-clause-goes g c =
     let disk = c.flush.new.self in
     let flight : IsInFlight s old.sectors.items old.count =
     subst (λ (st : Stage). StageFits st s old.sectors.items old.count) c.requires.stage sound.stage in
-    let held : IsTrue g.D.Disk.told → (before : List Cell) × Flies s before × (cells ≡ fully_written s before) = λ tells.
+    let held : IsTrue g.D.Disk.known → (before : List Cell) × Flies s before × (cells ≡ fully_written s before) = λ tells.
     subst (λ (st : Stage). HoldsAtStage st s cells) c.requires.stage (c.requires.store.holds tells) in
     let ring_some : 0 < old.ring = omega (arith, flight.room) in
-    let ring_fits : IsTrue g.D.Disk.told → RingFits s cells = λ tells. record { some = ring_some; place = omega (arith, sound.place, g.met.D.Disk.cells_fit tells old.disk) } in
-    let before_fits : (tells : IsTrue g.D.Disk.told) → RingFits s (held tells).0 = λ tells. record {
+    let ring_fits : IsTrue g.D.Disk.known → RingFits s cells = λ tells. record { some = ring_some; place = omega (arith, sound.place, g.met.D.Disk.cells_fit tells old.disk) } in
+    let before_fits : (tells : IsTrue g.D.Disk.known) → RingFits s (held tells).0 = λ tells. record {
       some = ring_some;
       place = omega (
         arith,
@@ -356,11 +356,11 @@ returns-in-Err-clause-goes g c =
         length-written (place_of s.anchor s.ring s.head) (first_part s.ring (item_of s)) (held tells).0,
       );
     } in
-    let images : IsTrue g.D.Disk.told → (image : List Sector) → IsImage cells image → ReplaysTo s cells image = λ tells image is.
+    let images : IsTrue g.D.Disk.known → (image : List Sector) → IsImage cells image → ReplaysTo s cells image = λ tells image is.
     c.states.ensures.replays s cells image (c.requires.store.holds tells) (ring_fits tells) (λ at. absurd (record_cover (sym c.requires.stage ∙ at))) is in
     let same : g.D.Disk.cells disk ≡ cells = c.in-Err.ensures.failed in
-    subst (λ (x : Store g.row.D.Denot). Goes g.D.Disk.told g.D.Disk.cells g.D.Disk.sector_count g.D.Disk.moment g.D.Disk.left_since old x) (sym c.go_down.ensures)
-    (falls g.D.Disk.told g.D.Disk.cells g.D.Disk.sector_count g.D.Disk.moment g.D.Disk.left_since old disk old.sectors _ c.requires.store c.in-Err.ensures.sectors sound.buffer
+    subst (λ (x : Store g.row.D.Denot). Goes g.D.Disk.known g.D.Disk.cells g.D.Disk.sector_count g.D.Disk.moment g.D.Disk.left_since old x) (sym c.go_down.ensures)
+    (falls g.D.Disk.known g.D.Disk.cells g.D.Disk.sector_count g.D.Disk.moment g.D.Disk.left_since old disk old.sectors _ c.requires.store c.in-Err.ensures.sectors sound.buffer
     (λ tells. ap (base_of s) same)
     (λ tells image is. images tells image (subst (λ (cs : List Cell). IsImage cs image) same is))
     (λ tells. leaves _ _ _ _ cells (ReplaysTo s cells) (c.in-Err.ensures.time tells) (images tells)))

@@ -14,12 +14,12 @@ force_asks : (job : Job) (list : List Commit) (batch : List Image) (ring head ta
 force_asks job list batch ring head tail is = subst (λ (j : Job). JobAsks j list batch ring head tail) (sym is) tt
 
 pub returns-then-is_empty-clause-goes : goal.returns-then-is_empty-clause-goes
-returns-then-is_empty-clause-goes g c = goes_job g.D.Disk.told g.D.Disk.cells g.D.Disk.sector_count g.D.Disk.moment g.D.Disk.left_since c.args.self.now Idle c.requires.store (job_free c.args.self.now.stage Idle c.requires.stage) tt
+returns-then-is_empty-clause-goes g c = goes_job g.D.Disk.known g.D.Disk.cells g.D.Disk.sector_count g.D.Disk.moment g.D.Disk.left_since c.args.self.now Idle c.requires.store (job_free c.args.self.now.stage Idle c.requires.stage) tt
 
 pub write_record-requires-clause-store : goal.write_record-requires-clause-store
 write_record-requires-clause-store g c =
-    subst (λ (x : Store g.row.D.Denot). IsStore g.D.Disk.told g.D.Disk.cells g.D.Disk.sector_count x) (sym c.gather.ensures.rest)
-    (goes_gathered g.D.Disk.told g.D.Disk.cells g.D.Disk.sector_count g.D.Disk.moment g.D.Disk.left_since c.args.self.now c.gather.new.self.batch c.gather.new.self.taken c.gather.new.self.count c.requires.store c.requires.stage (force_asks c.args.self.now.job _ _ _ _ _ c.requires.job)).store
+    subst (λ (x : Store g.row.D.Denot). IsStore g.D.Disk.known g.D.Disk.cells g.D.Disk.sector_count x) (sym c.gather.ensures.rest)
+    (goes_gathered g.D.Disk.known g.D.Disk.cells g.D.Disk.sector_count g.D.Disk.moment g.D.Disk.left_since c.args.self.now c.gather.new.self.batch c.gather.new.self.taken c.gather.new.self.count c.requires.store c.requires.stage (force_asks c.args.self.now.job _ _ _ _ _ c.requires.job)).store
 
 pub write_record-requires-clause-some : goal.write_record-requires-clause-some
 write_record-requires-clause-some g c =
@@ -28,8 +28,8 @@ write_record-requires-clause-some g c =
 
 pub clear_step-requires-clause-store : goal.clear_step-requires-clause-store
 clear_step-requires-clause-store g c =
-    let gathered = subst (λ (x : Store g.row.D.Denot). IsStore g.D.Disk.told g.D.Disk.cells g.D.Disk.sector_count x) (sym c.gather.ensures.rest)
-    (goes_gathered g.D.Disk.told g.D.Disk.cells g.D.Disk.sector_count g.D.Disk.moment g.D.Disk.left_since c.args.self.now c.gather.new.self.batch c.gather.new.self.taken c.gather.new.self.count c.requires.store c.requires.stage (force_asks c.args.self.now.job _ _ _ _ _ c.requires.job)).store in
+    let gathered = subst (λ (x : Store g.row.D.Denot). IsStore g.D.Disk.known g.D.Disk.cells g.D.Disk.sector_count x) (sym c.gather.ensures.rest)
+    (goes_gathered g.D.Disk.known g.D.Disk.cells g.D.Disk.sector_count g.D.Disk.moment g.D.Disk.left_since c.args.self.now c.gather.new.self.batch c.gather.new.self.taken c.gather.new.self.count c.requires.store c.requires.stage (force_asks c.args.self.now.job _ _ _ _ _ c.requires.job)).store in
     let some_left : c.args.self.now.queue.items ≡ [] → ⊥ = search rules in
     let no_room : c.gather.new.self.ring < (c.gather.new.self.positions.head - c.gather.new.self.positions.tail) + c.gather.new.self.count + 1 = search rules in
-    (goes_job g.D.Disk.told g.D.Disk.cells g.D.Disk.sector_count g.D.Disk.moment g.D.Disk.left_since c.gather.new.self Clear gathered (job_free c.gather.new.self.stage Clear (ap (λ (x : Store g.row.D.Denot). x.stage) c.gather.ensures.rest ∙ c.requires.stage)) (record { some = λ none. some_left (ap (λ (x : Store g.row.D.Denot). x.queue.items) (sym c.gather.ensures.rest) ∙ none); few = c.gather.ensures.batch.few; short = omega (arith, no_room, c.gather.ensures.size) })).store
+    (goes_job g.D.Disk.known g.D.Disk.cells g.D.Disk.sector_count g.D.Disk.moment g.D.Disk.left_since c.gather.new.self Clear gathered (job_free c.gather.new.self.stage Clear (ap (λ (x : Store g.row.D.Denot). x.stage) c.gather.ensures.rest ∙ c.requires.stage)) (record { some = λ none. some_left (ap (λ (x : Store g.row.D.Denot). x.queue.items) (sym c.gather.ensures.rest) ∙ none); few = c.gather.ensures.batch.few; short = omega (arith, no_room, c.gather.ensures.size) })).store

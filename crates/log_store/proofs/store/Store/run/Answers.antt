@@ -13,11 +13,11 @@ ok_err : {T E : Type 0} {x : T} {e : E} → Ok x ≡ Err e → ⊥
 ok_err same = cc
 
 pub loop-init : goal.loop-init
-loop-init g c = record { goes = goes_job g.D.Disk.told g.D.Disk.cells g.D.Disk.sector_count g.D.Disk.moment g.D.Disk.left_since c.args.self.now c.args.self.now.job c.requires c.requires.sound.job c.requires.sound.asks; goal = refl; faults = omega arith; rises = rises_none (covers_of c.args.self.now.job) (state_of c.args.self.now); back = λ is. stays_none (state_of c.args.self.now); home = λ is. stays_none (state_of c.args.self.now); at_end = λ is free ends. refl; arming = IsAfterWrites-none (g.D.Disk.arming c.args.self.now.disk); down = λ fault is. refl }
+loop-init g c = record { goes = goes_job g.D.Disk.known g.D.Disk.cells g.D.Disk.sector_count g.D.Disk.moment g.D.Disk.left_since c.args.self.now c.args.self.now.job c.requires c.requires.sound.job c.requires.sound.asks; goal = refl; faults = omega arith; rises = rises_none (covers_of c.args.self.now.job) (state_of c.args.self.now); back = λ is. stays_none (state_of c.args.self.now); home = λ is. stays_none (state_of c.args.self.now); at_end = λ is free ends. refl; arming = IsAfterWrites-none (g.D.Disk.arming c.args.self.now.disk); down = λ fault is. refl }
 
 pub returns-in_err-advance-clause-goes : goal.returns-in_err-advance-clause-goes
 returns-in_err-advance-clause-goes g c =
-    goes_both g.D.Disk.told g.D.Disk.cells g.D.Disk.sector_count g.D.Disk.moment g.D.Disk.left_since c.args.self.now c.loop.self c.advance.new.self c.loop.invariant.goes c.advance.ensures.goes
+    goes_both g.D.Disk.known g.D.Disk.cells g.D.Disk.sector_count g.D.Disk.moment g.D.Disk.left_since c.args.self.now c.loop.self c.advance.new.self c.loop.invariant.goes c.advance.ensures.goes
 
 pub loop-preserved : goal.loop-preserved
 loop-preserved g c =
@@ -34,8 +34,8 @@ loop-preserved g c =
       at_end = λ is free ends. absurd (c.in_ok-advance.ensures.end (subst (λ (x : Store g.row.D.Denot). EndsPastAt x.stage x.job (state_of x) (length c.advance.new.self.batch)) (sym (c.loop.invariant.at_end is free ends))
           (ends_home c.args.self.now.stage c.args.self.now.job (state_of c.args.self.now) (length c.advance.new.self.batch) is free ends)));
       arming = IsAfterWrites-both (g.D.Disk.arming c.args.self.now.disk) (g.D.Disk.arming now.disk) (g.D.Disk.arming c.advance.new.self.disk) c.loop.invariant.arming
-          (armed_made g.D.Disk.told g.D.Disk.cells g.D.Disk.arming _ _ now.disk c.advance.new.self.disk c.advance.ensures.call);
-      goes = goes_both g.D.Disk.told g.D.Disk.cells g.D.Disk.sector_count g.D.Disk.moment g.D.Disk.left_since c.args.self.now c.loop.self c.advance.new.self c.loop.invariant.goes c.advance.ensures.goes;
+          (armed_made g.D.Disk.known g.D.Disk.cells g.D.Disk.arming _ _ now.disk c.advance.new.self.disk c.advance.ensures.call);
+      goes = goes_both g.D.Disk.known g.D.Disk.cells g.D.Disk.sector_count g.D.Disk.moment g.D.Disk.left_since c.args.self.now c.loop.self c.advance.new.self c.loop.invariant.goes c.advance.ensures.goes;
       goal = out.0 ∙ c.loop.invariant.goal;
       faults = omega (arith, c.loop.invariant.faults, out.2);
       down = λ fault is. absurd (ok_err (sym c.in_ok-advance.was ∙ (c.advance.ensures.down fault (ap (λ (x : Store g.row.D.Denot). x.stage) (c.loop.invariant.down fault is) ∙ is)).0));
@@ -43,14 +43,14 @@ loop-preserved g c =
 
 pub returns-in-Ended-clause-goes : goal.returns-in-Ended-clause-goes
 returns-in-Ended-clause-goes g c =
-    goes_both g.D.Disk.told g.D.Disk.cells g.D.Disk.sector_count g.D.Disk.moment g.D.Disk.left_since c.args.self.now c.loop.self c.advance.new.self c.loop.invariant.goes c.advance.ensures.goes
+    goes_both g.D.Disk.known g.D.Disk.cells g.D.Disk.sector_count g.D.Disk.moment g.D.Disk.left_since c.args.self.now c.loop.self c.advance.new.self c.loop.invariant.goes c.advance.ensures.goes
 
 pub returns-in_err-advance-clause-arming : goal.returns-in_err-advance-clause-arming
 returns-in_err-advance-clause-arming g c =
     IsAfterWrites-both (g.D.Disk.arming c.args.self.now.disk) (g.D.Disk.arming c.loop.self.disk) (g.D.Disk.arming c.advance.new.self.disk) c.loop.invariant.arming
-    (armed_made g.D.Disk.told g.D.Disk.cells g.D.Disk.arming _ _ c.loop.self.disk c.advance.new.self.disk c.advance.ensures.call)
+    (armed_made g.D.Disk.known g.D.Disk.cells g.D.Disk.arming _ _ c.loop.self.disk c.advance.new.self.disk c.advance.ensures.call)
 
 pub returns-in-Ended-clause-arming : goal.returns-in-Ended-clause-arming
 returns-in-Ended-clause-arming g c =
     IsAfterWrites-both (g.D.Disk.arming c.args.self.now.disk) (g.D.Disk.arming c.loop.self.disk) (g.D.Disk.arming c.advance.new.self.disk) c.loop.invariant.arming
-    (armed_made g.D.Disk.told g.D.Disk.cells g.D.Disk.arming _ _ c.loop.self.disk c.advance.new.self.disk c.advance.ensures.call)
+    (armed_made g.D.Disk.known g.D.Disk.cells g.D.Disk.arming _ _ c.loop.self.disk c.advance.new.self.disk c.advance.ensures.call)

@@ -37,7 +37,7 @@ covering_fits Idle is = absurd is
 
 pub returns-then-head-clause-goes : goal.returns-then-head-clause-goes
 returns-then-head-clause-goes g c =
-    goes_job g.D.Disk.told g.D.Disk.cells g.D.Disk.sector_count g.D.Disk.moment g.D.Disk.left_since c.args.self.now Idle c.requires.store (job_free c.args.self.now.stage Idle c.requires.stage) tt
+    goes_job g.D.Disk.known g.D.Disk.cells g.D.Disk.sector_count g.D.Disk.moment g.D.Disk.left_since c.args.self.now Idle c.requires.store (job_free c.args.self.now.stage Idle c.requires.stage) tt
 
 pub returns-in-Ok-clause-goes : goal.returns-in-Ok-clause-goes
 returns-in-Ok-clause-goes g c =
@@ -59,15 +59,15 @@ returns-in-Ok-clause-goes g c =
     let end : old.positions.head + 1 ≤ 2 ^ 63 = last_left old.positions.head (ap (λ (n : ℕ). n) (sym c.head-head.ensures.head)) c.head-head.ensures.end c.if-head.false in
     let long = c.fill_buffer.ensures.length ∙ sound.buffer in
     let ring_some : 0 < old.ring = omega (arith, c.place.ensures.within, sound.ring) in
-    let ring_fits : IsTrue g.D.Disk.told → RingFits s cells = λ tells. record { some = ring_some; place = omega (arith, sound.place, g.met.D.Disk.cells_fit tells old.disk) } in
-    let covers : (st : Stage) → IsTrue g.D.Disk.told → Covers (record s { stage = st }) cells = λ st tells. record {
+    let ring_fits : IsTrue g.D.Disk.known → RingFits s cells = λ tells. record { some = ring_some; place = omega (arith, sound.place, g.met.D.Disk.cells_fit tells old.disk) } in
+    let covers : (st : Stage) → IsTrue g.D.Disk.known → Covers (record s { stage = st }) cells = λ st tells. record {
       rest = rerest s old.queue.items old.batch old.taken st cells (rest_of old.stage s cells c.requires.stage (c.requires.store.holds tells));
       dirty = c.requires.none;
       unflushed = c.requires.flushed;
     } in
-    let images : IsTrue g.D.Disk.told → (image : List Sector) → IsImage (cover_written s cells) image → ReplaysTo s cells image = λ tells image is.
+    let images : IsTrue g.D.Disk.known → (image : List Sector) → IsImage (cover_written s cells) image → ReplaysTo s cells image = λ tells image is.
     c.cover_flights.ensures.written s cells image (covers old.stage tells) (ring_fits tells) end is in
-    goes_written g.D.Disk.told g.D.Disk.cells g.D.Disk.sector_count g.D.Disk.moment g.D.Disk.left_since old disk c.fill_buffer.new.sectors Cover c.requires.store
+    goes_written g.D.Disk.known g.D.Disk.cells g.D.Disk.sector_count g.D.Disk.moment g.D.Disk.left_since old disk c.fill_buffer.new.sectors Cover c.requires.store
     (covering_fits old.job c.requires.job)
     c.in-Ok.ensures.sectors long (end, c.requires.none, c.requires.flushed)
     (λ tells. (cells, covers Cover tells, c.in-Ok.ensures.written tells ∙ cells_is))
@@ -96,19 +96,19 @@ returns-in-Err-clause-goes g c =
     let end : old.positions.head + 1 ≤ 2 ^ 63 = last_left old.positions.head (ap (λ (n : ℕ). n) (sym c.head-head.ensures.head)) c.head-head.ensures.end c.if-head.false in
     let long = c.fill_buffer.ensures.length ∙ sound.buffer in
     let ring_some : 0 < old.ring = omega (arith, c.place.ensures.within, sound.ring) in
-    let ring_fits : IsTrue g.D.Disk.told → RingFits s cells = λ tells. record { some = ring_some; place = omega (arith, sound.place, g.met.D.Disk.cells_fit tells old.disk) } in
-    let covers : (st : Stage) → IsTrue g.D.Disk.told → Covers (record s { stage = st }) cells = λ st tells. record {
+    let ring_fits : IsTrue g.D.Disk.known → RingFits s cells = λ tells. record { some = ring_some; place = omega (arith, sound.place, g.met.D.Disk.cells_fit tells old.disk) } in
+    let covers : (st : Stage) → IsTrue g.D.Disk.known → Covers (record s { stage = st }) cells = λ st tells. record {
       rest = rerest s old.queue.items old.batch old.taken st cells (rest_of old.stage s cells c.requires.stage (c.requires.store.holds tells));
       dirty = c.requires.none;
       unflushed = c.requires.flushed;
     } in
-    let images : IsTrue g.D.Disk.told → (image : List Sector) → IsImage (cover_written s cells) image → ReplaysTo s cells image = λ tells image is.
+    let images : IsTrue g.D.Disk.known → (image : List Sector) → IsImage (cover_written s cells) image → ReplaysTo s cells image = λ tells image is.
     c.cover_flights.ensures.written s cells image (covers old.stage tells) (ring_fits tells) end is in
-    let partly : IsTrue g.D.Disk.told → IsPartlyWritten (place_of old.anchor old.ring old.positions.head) (encoded (cover_record s)) cells (g.D.Disk.cells disk) = λ tells.
+    let partly : IsTrue g.D.Disk.known → IsPartlyWritten (place_of old.anchor old.ring old.positions.head) (encoded (cover_record s)) cells (g.D.Disk.cells disk) = λ tells.
     subst (λ (l : List Sector). IsPartlyWritten (place_of old.anchor old.ring old.positions.head) l cells (g.D.Disk.cells disk)) pieces_is
     (subst (λ (n : ℕ). IsPartlyWritten n (take 1 c.deref.result.now) cells (g.D.Disk.cells disk)) place_is (c.in-Err.ensures.failed tells)) in
-    subst (λ (x : Store g.row.D.Denot). Goes g.D.Disk.told g.D.Disk.cells g.D.Disk.sector_count g.D.Disk.moment g.D.Disk.left_since old x) (sym c.go_down.ensures)
-    (falls g.D.Disk.told g.D.Disk.cells g.D.Disk.sector_count g.D.Disk.moment g.D.Disk.left_since old disk c.fill_buffer.new.sectors _ c.requires.store c.in-Err.ensures.sectors long
+    subst (λ (x : Store g.row.D.Denot). Goes g.D.Disk.known g.D.Disk.cells g.D.Disk.sector_count g.D.Disk.moment g.D.Disk.left_since old x) (sym c.go_down.ensures)
+    (falls g.D.Disk.known g.D.Disk.cells g.D.Disk.sector_count g.D.Disk.moment g.D.Disk.left_since old disk c.fill_buffer.new.sectors _ c.requires.store c.in-Err.ensures.sectors long
     (λ tells. base-partly s (place_of old.anchor old.ring old.positions.head) (encoded (cover_record s)) cells (g.D.Disk.cells disk) (omega arith) (partly tells))
     (λ tells image is. images tells image (IsImage-partly_written (place_of old.anchor old.ring old.positions.head) (encoded (cover_record s)) cells (g.D.Disk.cells disk) image (partly tells) is))
     (λ tells. leaves _ _ _ _ (cover_written s cells) (ReplaysTo s cells)

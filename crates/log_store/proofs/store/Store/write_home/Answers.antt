@@ -52,7 +52,7 @@ returns-in-Ok-clause-goes g c =
             (subst (λ (l : List Image). AtRest (written_home s l) (g.D.Disk.cells c.write.new.self)) (sym images)
             (subst (λ (cs : List Cell). AtRest (written_home s rest) cs) (sym (c.in-Ok.ensures.written tells)) done));
       };
-      moves = moves_none g.D.Disk.told s _ cells _ refl refl refl refl (omega arith) (λ tells.
+      moves = moves_none g.D.Disk.known s _ cells _ refl refl refl refl (omega arith) (λ tells.
           let within : old.anchor ≤ length cells = omega (arith, sound.place, g.met.D.Disk.cells_fit tells old.disk) in
           let at_rest = rest_of old.stage s cells c.requires.stage (c.requires.store.holds tells) in
           ap (λ (l : List Image). base_of (written_home s l) (g.D.Disk.cells c.write.new.self)) images
@@ -98,7 +98,7 @@ returns-in-Err-clause-goes g c =
             held_of old.stage _ _ c.requires.stage
             (c.homes.ensures.failed s cells _ image rest at_rest is sound.rises below within (c.in-Err.ensures.failed tells));
       };
-      moves = moves_none g.D.Disk.told s _ cells _ refl refl refl refl (omega arith) (λ tells.
+      moves = moves_none g.D.Disk.known s _ cells _ refl refl refl refl (omega arith) (λ tells.
           let within : old.anchor ≤ length cells = omega (arith, sound.place, g.met.D.Disk.cells_fit tells old.disk) in
           let at_rest = rest_of old.stage s cells c.requires.stage (c.requires.store.holds tells) in
           c.homes.ensures.failed_base s cells _ image rest at_rest is sound.rises below within (c.in-Err.ensures.failed tells));

@@ -28,7 +28,7 @@ use Rattle.log_store.proofs.store.Store.write_record.Goals as goal
 
 pub returns-then-head-from-clause-goes : goal.returns-then-head-from-clause-goes
 returns-then-head-from-clause-goes g c =
-    goes_job g.D.Disk.told g.D.Disk.cells g.D.Disk.sector_count g.D.Disk.moment g.D.Disk.left_since c.args.self.now Idle c.requires.store (job_free c.args.self.now.stage Idle c.requires.stage) tt
+    goes_job g.D.Disk.known g.D.Disk.cells g.D.Disk.sector_count g.D.Disk.moment g.D.Disk.left_since c.args.self.now Idle c.requires.store (job_free c.args.self.now.stage Idle c.requires.stage) tt
 
 pub slice_bounds-write-end : goal.slice_bounds-write-end
 slice_bounds-write-end g c =
@@ -69,14 +69,14 @@ returns-then-part-count-clause-goes g c =
     let end : old.positions.head + old.count ≤ 2 ^ 63 = omega (arith, c.if-head-from.false, c.from.ensures, c.head-head.ensures.head, c.head-head.ensures.end) in
     let long = c.fill_buffer.ensures.length ∙ sound.buffer in
     let ring_some : 0 < old.ring = omega (arith, c.requires.room) in
-    let ring_fits : IsTrue g.D.Disk.told → RingFits s cells = λ tells. record { some = ring_some; place = omega (arith, sound.place, g.met.D.Disk.cells_fit tells old.disk) } in
-    let rest_is : IsTrue g.D.Disk.told → AtRest s cells = λ tells. rest_of old.stage s cells c.requires.stage (c.requires.store.holds tells) in
+    let ring_fits : IsTrue g.D.Disk.known → RingFits s cells = λ tells. record { some = ring_some; place = omega (arith, sound.place, g.met.D.Disk.cells_fit tells old.disk) } in
+    let rest_is : IsTrue g.D.Disk.known → AtRest s cells = λ tells. rest_of old.stage s cells c.requires.stage (c.requires.store.holds tells) in
     let order : old.positions.tail ≤ old.positions.head = omega (arith, c.tail.ensures.tail, c.tail.ensures.ordered) in
     let room_is : (old.positions.head - old.positions.tail) + sector_count (length old.batch) + 1 ≤ old.ring = omega (arith, c.requires.room, c.requires.size) in
     let end_is : old.positions.head + sector_count (length old.batch) ≤ 2 ^ 63 = omega (arith, end, c.requires.size) in
-    let flies : (st : Stage) → IsTrue g.D.Disk.told → Flies (record s { stage = st }) cells = λ st tells.
+    let flies : (st : Stage) → IsTrue g.D.Disk.known → Flies (record s { stage = st }) cells = λ st tells.
     launch (record s { stage = st }) cells (rerest s old.queue.items old.batch old.taken st cells (rest_is tells)) (taken_of old.queue.items old.taken old.batch c.requires.batch) fits_is sound.groups order room_is end_is sound.numbers in
-    let images : IsTrue g.D.Disk.told → (image : List Sector) → IsImage (half_written s cells) image → ReplaysTo s cells image = λ tells image is.
+    let images : IsTrue g.D.Disk.known → (image : List Sector) → IsImage (half_written s cells) image → ReplaysTo s cells image = λ tells image is.
     c.flights.ensures.half s cells image (flies old.stage tells) (ring_fits tells) is in
     let flight : (st : Stage) → IsInFlight (record s { stage = st }) xs old.count = λ st. record {
       some = c.requires.some;
@@ -87,7 +87,7 @@ returns-then-part-count-clause-goes g c =
       room = c.requires.room;
       end = end;
     } in
-    goes_written g.D.Disk.told g.D.Disk.cells g.D.Disk.sector_count g.D.Disk.moment g.D.Disk.left_since old disk c.fill_buffer.new.sectors Half c.requires.store
+    goes_written g.D.Disk.known g.D.Disk.cells g.D.Disk.sector_count g.D.Disk.moment g.D.Disk.left_since old disk c.fill_buffer.new.sectors Half c.requires.store
     (subst (λ (j : Job). JobFits Half j) (sym c.requires.job) tt)
     c.in-Ok.ensures.sectors long (flight Half, omega (arith, c.if-part-count.true, least))
     (λ tells. (cells, flies Half tells, c.in-Ok.ensures.written tells ∙ cells_is))
@@ -123,14 +123,14 @@ returns-else-part-count-clause-goes g c =
     let end : old.positions.head + old.count ≤ 2 ^ 63 = omega (arith, c.if-head-from.false, c.from.ensures, c.head-head.ensures.head, c.head-head.ensures.end) in
     let long = c.fill_buffer.ensures.length ∙ sound.buffer in
     let ring_some : 0 < old.ring = omega (arith, c.requires.room) in
-    let ring_fits : IsTrue g.D.Disk.told → RingFits s cells = λ tells. record { some = ring_some; place = omega (arith, sound.place, g.met.D.Disk.cells_fit tells old.disk) } in
-    let rest_is : IsTrue g.D.Disk.told → AtRest s cells = λ tells. rest_of old.stage s cells c.requires.stage (c.requires.store.holds tells) in
+    let ring_fits : IsTrue g.D.Disk.known → RingFits s cells = λ tells. record { some = ring_some; place = omega (arith, sound.place, g.met.D.Disk.cells_fit tells old.disk) } in
+    let rest_is : IsTrue g.D.Disk.known → AtRest s cells = λ tells. rest_of old.stage s cells c.requires.stage (c.requires.store.holds tells) in
     let order : old.positions.tail ≤ old.positions.head = omega (arith, c.tail.ensures.tail, c.tail.ensures.ordered) in
     let room_is : (old.positions.head - old.positions.tail) + sector_count (length old.batch) + 1 ≤ old.ring = omega (arith, c.requires.room, c.requires.size) in
     let end_is : old.positions.head + sector_count (length old.batch) ≤ 2 ^ 63 = omega (arith, end, c.requires.size) in
-    let flies : (st : Stage) → IsTrue g.D.Disk.told → Flies (record s { stage = st }) cells = λ st tells.
+    let flies : (st : Stage) → IsTrue g.D.Disk.known → Flies (record s { stage = st }) cells = λ st tells.
     launch (record s { stage = st }) cells (rerest s old.queue.items old.batch old.taken st cells (rest_is tells)) (taken_of old.queue.items old.taken old.batch c.requires.batch) fits_is sound.groups order room_is end_is sound.numbers in
-    let images : IsTrue g.D.Disk.told → (image : List Sector) → IsImage (half_written s cells) image → ReplaysTo s cells image = λ tells image is.
+    let images : IsTrue g.D.Disk.known → (image : List Sector) → IsImage (half_written s cells) image → ReplaysTo s cells image = λ tells image is.
     c.flights.ensures.half s cells image (flies old.stage tells) (ring_fits tells) is in
     let flight : (st : Stage) → IsInFlight (record s { stage = st }) xs old.count = λ st. record {
       some = c.requires.some;
@@ -142,7 +142,7 @@ returns-else-part-count-clause-goes g c =
       end = end;
     } in
     let none : rest_part old.ring (item_of s) ≡ [] = no_rest xs (encoded (item_of s)) old.count k (omega (arith, c.if-part-count.false, least)) encoded_is in
-    goes_written g.D.Disk.told g.D.Disk.cells g.D.Disk.sector_count g.D.Disk.moment g.D.Disk.left_since old disk c.fill_buffer.new.sectors Record c.requires.store
+    goes_written g.D.Disk.known g.D.Disk.cells g.D.Disk.sector_count g.D.Disk.moment g.D.Disk.left_since old disk c.fill_buffer.new.sectors Record c.requires.store
     (subst (λ (j : Job). JobFits Record j) (sym c.requires.job) tt)
     c.in-Ok.ensures.sectors long (flight Record)
     (λ tells. (cells, flies Record tells, c.in-Ok.ensures.written tells ∙ cells_is ∙ ap (λ (l : List Sector). written (old.anchor + 1) l (half_written s cells)) (sym none)))
@@ -178,14 +178,14 @@ returns-in-Err-clause-goes g c =
     let end : old.positions.head + old.count ≤ 2 ^ 63 = omega (arith, c.if-head-from.false, c.from.ensures, c.head-head.ensures.head, c.head-head.ensures.end) in
     let long = c.fill_buffer.ensures.length ∙ sound.buffer in
     let ring_some : 0 < old.ring = omega (arith, c.requires.room) in
-    let ring_fits : IsTrue g.D.Disk.told → RingFits s cells = λ tells. record { some = ring_some; place = omega (arith, sound.place, g.met.D.Disk.cells_fit tells old.disk) } in
-    let rest_is : IsTrue g.D.Disk.told → AtRest s cells = λ tells. rest_of old.stage s cells c.requires.stage (c.requires.store.holds tells) in
+    let ring_fits : IsTrue g.D.Disk.known → RingFits s cells = λ tells. record { some = ring_some; place = omega (arith, sound.place, g.met.D.Disk.cells_fit tells old.disk) } in
+    let rest_is : IsTrue g.D.Disk.known → AtRest s cells = λ tells. rest_of old.stage s cells c.requires.stage (c.requires.store.holds tells) in
     let order : old.positions.tail ≤ old.positions.head = omega (arith, c.tail.ensures.tail, c.tail.ensures.ordered) in
     let room_is : (old.positions.head - old.positions.tail) + sector_count (length old.batch) + 1 ≤ old.ring = omega (arith, c.requires.room, c.requires.size) in
     let end_is : old.positions.head + sector_count (length old.batch) ≤ 2 ^ 63 = omega (arith, end, c.requires.size) in
-    let flies : (st : Stage) → IsTrue g.D.Disk.told → Flies (record s { stage = st }) cells = λ st tells.
+    let flies : (st : Stage) → IsTrue g.D.Disk.known → Flies (record s { stage = st }) cells = λ st tells.
     launch (record s { stage = st }) cells (rerest s old.queue.items old.batch old.taken st cells (rest_is tells)) (taken_of old.queue.items old.taken old.batch c.requires.batch) fits_is sound.groups order room_is end_is sound.numbers in
-    let images : IsTrue g.D.Disk.told → (image : List Sector) → IsImage (half_written s cells) image → ReplaysTo s cells image = λ tells image is.
+    let images : IsTrue g.D.Disk.known → (image : List Sector) → IsImage (half_written s cells) image → ReplaysTo s cells image = λ tells image is.
     c.flights.ensures.half s cells image (flies old.stage tells) (ring_fits tells) is in
     let flight : (st : Stage) → IsInFlight (record s { stage = st }) xs old.count = λ st. record {
       some = c.requires.some;
@@ -196,11 +196,11 @@ returns-in-Err-clause-goes g c =
       room = c.requires.room;
       end = end;
     } in
-    let partly : IsTrue g.D.Disk.told → IsPartlyWritten (place_of old.anchor old.ring old.positions.head) (first_part old.ring (item_of s)) cells (g.D.Disk.cells disk) = λ tells.
+    let partly : IsTrue g.D.Disk.known → IsPartlyWritten (place_of old.anchor old.ring old.positions.head) (first_part old.ring (item_of s)) cells (g.D.Disk.cells disk) = λ tells.
     subst (λ (l : List Sector). IsPartlyWritten (place_of old.anchor old.ring old.positions.head) l cells (g.D.Disk.cells disk)) pieces_is
     (subst (λ (n : ℕ). IsPartlyWritten n (take c.min-part.result c.deref.result.now) cells (g.D.Disk.cells disk)) place_is (c.in-Err.ensures.failed tells)) in
-    subst (λ (x : Store g.row.D.Denot). Goes g.D.Disk.told g.D.Disk.cells g.D.Disk.sector_count g.D.Disk.moment g.D.Disk.left_since old x) (sym c.go_down.ensures)
-    (falls g.D.Disk.told g.D.Disk.cells g.D.Disk.sector_count g.D.Disk.moment g.D.Disk.left_since old disk c.fill_buffer.new.sectors _ c.requires.store c.in-Err.ensures.sectors long
+    subst (λ (x : Store g.row.D.Denot). Goes g.D.Disk.known g.D.Disk.cells g.D.Disk.sector_count g.D.Disk.moment g.D.Disk.left_since old x) (sym c.go_down.ensures)
+    (falls g.D.Disk.known g.D.Disk.cells g.D.Disk.sector_count g.D.Disk.moment g.D.Disk.left_since old disk c.fill_buffer.new.sectors _ c.requires.store c.in-Err.ensures.sectors long
     (λ tells. base-partly s (place_of old.anchor old.ring old.positions.head) (first_part old.ring (item_of s)) cells (g.D.Disk.cells disk) (omega arith) (partly tells))
     (λ tells image is. images tells image (IsImage-partly_written (place_of old.anchor old.ring old.positions.head) (first_part old.ring (item_of s)) cells (g.D.Disk.cells disk) image (partly tells) is))
     (λ tells. leaves _ _ _ _ (half_written s cells) (ReplaysTo s cells)

@@ -47,27 +47,27 @@ returns-in-Ok-clause-goes g c =
     let k = old.ring - old.positions.head % old.ring in
     let fit : IsInFlight s xs old.count × (k < old.count) = subst (λ (st : Stage). StageFits st s xs old.count) c.requires.stage sound.stage in
     let flight = fit.0 in
-    let held : IsTrue g.D.Disk.told → (before : List Cell) × Flies s before × (cells ≡ half_written s before) = λ tells.
+    let held : IsTrue g.D.Disk.known → (before : List Cell) × Flies s before × (cells ≡ half_written s before) = λ tells.
     subst (λ (st : Stage). HoldsAtStage st s cells) c.requires.stage (c.requires.store.holds tells) in
     let pieces_is : take (old.count - c.straight-part.result) (drop c.straight-part.result c.deref.result.now) ≡ rest_part old.ring (item_of s) =
     ap (λ (l : List Sector). take (old.count - c.straight-part.result) (drop c.straight-part.result l)) c.deref.ensures.value
     ∙ ap (λ (n : ℕ). take (old.count - n) (drop n xs)) c.straight-part.ensures.left
     ∙ rest_range xs (encoded (item_of s)) old.count k (omega (arith, fit.1)) flight.encoded in
-    let cells_is : (tells : IsTrue g.D.Disk.told) → written (old.anchor + 1) (take (old.count - c.straight-part.result) (drop c.straight-part.result c.deref.result.now)) cells ≡ fully_written s (held tells).0 = λ tells.
+    let cells_is : (tells : IsTrue g.D.Disk.known) → written (old.anchor + 1) (take (old.count - c.straight-part.result) (drop c.straight-part.result c.deref.result.now)) cells ≡ fully_written s (held tells).0 = λ tells.
     ap (λ (l : List Sector). written (old.anchor + 1) l cells) pieces_is ∙ ap (λ (cs : List Cell). written (old.anchor + 1) (rest_part old.ring (item_of s)) cs) (held tells).2 in
     let ring_some : 0 < old.ring = omega (arith, flight.room) in
-    let before_fits : (tells : IsTrue g.D.Disk.told) → RingFits s (held tells).0 = λ tells. record {
+    let before_fits : (tells : IsTrue g.D.Disk.known) → RingFits s (held tells).0 = λ tells. record {
       some = ring_some;
       place = omega (arith, sound.place, g.met.D.Disk.cells_fit tells old.disk, ap length (held tells).2, length-written (place_of s.anchor s.ring s.head) (first_part s.ring (item_of s)) (held tells).0);
     } in
-    let base_half : (tells : IsTrue g.D.Disk.told) → base_of s cells ≡ base_of s (held tells).0 = λ tells.
+    let base_half : (tells : IsTrue g.D.Disk.known) → base_of s cells ≡ base_of s (held tells).0 = λ tells.
     ap (base_of s) (held tells).2 ∙ c.flights.ensures.half_base s (held tells).0 (before_fits tells) in
-    let images : (tells : IsTrue g.D.Disk.told) → (image : List Sector) → IsImage (fully_written s (held tells).0) image → ReplaysTo s cells image = λ tells image is.
+    let images : (tells : IsTrue g.D.Disk.known) → (image : List Sector) → IsImage (fully_written s (held tells).0) image → ReplaysTo s cells image = λ tells image is.
     subst (λ (b : List Sector). Replays old.anchor old.ring (old.positions.head + MAX_RECORD_SECTORS) b old.queue.items old.durable image) (sym (base_half tells))
     (c.flights.ensures.full s (held tells).0 image (held tells).1 (before_fits tells) is) in
-    let restaged : (tells : IsTrue g.D.Disk.told) → Flies (record s { stage = Record }) (held tells).0 = λ tells.
+    let restaged : (tells : IsTrue g.D.Disk.known) → Flies (record s { stage = Record }) (held tells).0 = λ tells.
     let flies = (held tells).1 in record { rest = rerest s old.queue.items old.batch old.taken Record (held tells).0 flies.rest; goes = flies.goes; batch = flies.batch } in
-    goes_written g.D.Disk.told g.D.Disk.cells g.D.Disk.sector_count g.D.Disk.moment g.D.Disk.left_since old disk old.sectors Record c.requires.store
+    goes_written g.D.Disk.known g.D.Disk.cells g.D.Disk.sector_count g.D.Disk.moment g.D.Disk.left_since old disk old.sectors Record c.requires.store
     (record_force old.job (subst (λ (st : Stage). JobFits st old.job) c.requires.stage sound.job))
     c.in-Ok.ensures.sectors sound.buffer
     (record { some = flight.some; batch = flight.batch; fits = flight.fits; size = flight.size; encoded = flight.encoded; room = flight.room; end = flight.end })
@@ -88,32 +88,32 @@ returns-in-Err-clause-goes g c =
     let k = old.ring - old.positions.head % old.ring in
     let fit : IsInFlight s xs old.count × (k < old.count) = subst (λ (st : Stage). StageFits st s xs old.count) c.requires.stage sound.stage in
     let flight = fit.0 in
-    let held : IsTrue g.D.Disk.told → (before : List Cell) × Flies s before × (cells ≡ half_written s before) = λ tells.
+    let held : IsTrue g.D.Disk.known → (before : List Cell) × Flies s before × (cells ≡ half_written s before) = λ tells.
     subst (λ (st : Stage). HoldsAtStage st s cells) c.requires.stage (c.requires.store.holds tells) in
     let pieces_is : take (old.count - c.straight-part.result) (drop c.straight-part.result c.deref.result.now) ≡ rest_part old.ring (item_of s) =
     ap (λ (l : List Sector). take (old.count - c.straight-part.result) (drop c.straight-part.result l)) c.deref.ensures.value
     ∙ ap (λ (n : ℕ). take (old.count - n) (drop n xs)) c.straight-part.ensures.left
     ∙ rest_range xs (encoded (item_of s)) old.count k (omega (arith, fit.1)) flight.encoded in
-    let cells_is : (tells : IsTrue g.D.Disk.told) → written (old.anchor + 1) (take (old.count - c.straight-part.result) (drop c.straight-part.result c.deref.result.now)) cells ≡ fully_written s (held tells).0 = λ tells.
+    let cells_is : (tells : IsTrue g.D.Disk.known) → written (old.anchor + 1) (take (old.count - c.straight-part.result) (drop c.straight-part.result c.deref.result.now)) cells ≡ fully_written s (held tells).0 = λ tells.
     ap (λ (l : List Sector). written (old.anchor + 1) l cells) pieces_is ∙ ap (λ (cs : List Cell). written (old.anchor + 1) (rest_part old.ring (item_of s)) cs) (held tells).2 in
     let ring_some : 0 < old.ring = omega (arith, flight.room) in
-    let before_fits : (tells : IsTrue g.D.Disk.told) → RingFits s (held tells).0 = λ tells. record {
+    let before_fits : (tells : IsTrue g.D.Disk.known) → RingFits s (held tells).0 = λ tells. record {
       some = ring_some;
       place = omega (arith, sound.place, g.met.D.Disk.cells_fit tells old.disk, ap length (held tells).2, length-written (place_of s.anchor s.ring s.head) (first_part s.ring (item_of s)) (held tells).0);
     } in
-    let base_half : (tells : IsTrue g.D.Disk.told) → base_of s cells ≡ base_of s (held tells).0 = λ tells.
+    let base_half : (tells : IsTrue g.D.Disk.known) → base_of s cells ≡ base_of s (held tells).0 = λ tells.
     ap (base_of s) (held tells).2 ∙ c.flights.ensures.half_base s (held tells).0 (before_fits tells) in
-    let images : (tells : IsTrue g.D.Disk.told) → (image : List Sector) → IsImage (fully_written s (held tells).0) image → ReplaysTo s cells image = λ tells image is.
+    let images : (tells : IsTrue g.D.Disk.known) → (image : List Sector) → IsImage (fully_written s (held tells).0) image → ReplaysTo s cells image = λ tells image is.
     subst (λ (b : List Sector). Replays old.anchor old.ring (old.positions.head + MAX_RECORD_SECTORS) b old.queue.items old.durable image) (sym (base_half tells))
     (c.flights.ensures.full s (held tells).0 image (held tells).1 (before_fits tells) is) in
-    let restaged : (tells : IsTrue g.D.Disk.told) → Flies (record s { stage = Record }) (held tells).0 = λ tells.
+    let restaged : (tells : IsTrue g.D.Disk.known) → Flies (record s { stage = Record }) (held tells).0 = λ tells.
     let flies = (held tells).1 in record { rest = rerest s old.queue.items old.batch old.taken Record (held tells).0 flies.rest; goes = flies.goes; batch = flies.batch } in
-    let partly : (tells : IsTrue g.D.Disk.told) → IsPartlyWritten (old.anchor + 1) (rest_part old.ring (item_of s)) cells (g.D.Disk.cells disk) = λ tells.
+    let partly : (tells : IsTrue g.D.Disk.known) → IsPartlyWritten (old.anchor + 1) (rest_part old.ring (item_of s)) cells (g.D.Disk.cells disk) = λ tells.
     subst (λ (l : List Sector). IsPartlyWritten (old.anchor + 1) l cells (g.D.Disk.cells disk)) pieces_is (c.in-Err.ensures.failed tells) in
-    let still : (tells : IsTrue g.D.Disk.told) → written (old.anchor + 1) (rest_part old.ring (item_of s)) cells ≡ fully_written s (held tells).0 = λ tells.
+    let still : (tells : IsTrue g.D.Disk.known) → written (old.anchor + 1) (rest_part old.ring (item_of s)) cells ≡ fully_written s (held tells).0 = λ tells.
     ap (λ (cs : List Cell). written (old.anchor + 1) (rest_part old.ring (item_of s)) cs) (held tells).2 in
-    subst (λ (x : Store g.row.D.Denot). Goes g.D.Disk.told g.D.Disk.cells g.D.Disk.sector_count g.D.Disk.moment g.D.Disk.left_since old x) (sym c.go_down.ensures)
-    (falls g.D.Disk.told g.D.Disk.cells g.D.Disk.sector_count g.D.Disk.moment g.D.Disk.left_since old disk old.sectors _ c.requires.store c.in-Err.ensures.sectors sound.buffer
+    subst (λ (x : Store g.row.D.Denot). Goes g.D.Disk.known g.D.Disk.cells g.D.Disk.sector_count g.D.Disk.moment g.D.Disk.left_since old x) (sym c.go_down.ensures)
+    (falls g.D.Disk.known g.D.Disk.cells g.D.Disk.sector_count g.D.Disk.moment g.D.Disk.left_since old disk old.sectors _ c.requires.store c.in-Err.ensures.sectors sound.buffer
     (λ tells. base-partly s (old.anchor + 1) (rest_part old.ring (item_of s)) cells (g.D.Disk.cells disk) (omega arith) (partly tells))
     (λ tells image is. images tells image (subst (λ (cs : List Cell). IsImage cs image) (still tells)
     (IsImage-partly_written (old.anchor + 1) (rest_part old.ring (item_of s)) cells (g.D.Disk.cells disk) image (partly tells) is)))
@@ -130,9 +130,9 @@ rest_pieces ring head count part xs all now value left within is =
     ∙ rest_range xs all count (ring - head % ring) (omega (arith, within)) is
 
 -- at this stage the call is that write
-half_call : {D : Type 0} (told : Bool) (cells : D → List Cell) (arming : D → Arming) (result : Result Progress StoreFault) (stage : Stage) (job : Job) (s : State) (before after : D) → stage ≡ Half
-    → Made told cells arming (write (s.anchor + 1) (rest_part s.ring (item_of s))) result before after → Made told cells arming (call_at stage job s) result before after
-half_call told cells arming result stage job s before after is made = subst (λ (st : Stage). Made told cells arming (call_at st job s) result before after) (sym is) made
+half_call : {D : Type 0} (known : Bool) (cells : D → List Cell) (arming : D → Arming) (result : Result Progress StoreFault) (stage : Stage) (job : Job) (s : State) (before after : D) → stage ≡ Half
+    → Made known cells arming (write (s.anchor + 1) (rest_part s.ring (item_of s))) result before after → Made known cells arming (call_at stage job s) result before after
+half_call known cells arming result stage job s before after is made = subst (λ (st : Stage). Made known cells arming (call_at st job s) result before after) (sym is) made
 
 pub returns-in-Ok-clause-call : goal.returns-in-Ok-clause-call
 returns-in-Ok-clause-call g c =
@@ -142,7 +142,7 @@ returns-in-Ok-clause-call g c =
     let disk = c.write.new.self in
     let fit : IsInFlight s old.sectors.items old.count × (old.ring - old.positions.head % old.ring < old.count) = subst (λ (st : Stage). StageFits st s old.sectors.items old.count) c.requires.stage c.requires.store.sound.stage in
     let pieces_is = rest_pieces old.ring old.positions.head old.count c.straight-part.result old.sectors.items (encoded (item_of s)) c.deref.result.now c.deref.ensures.value c.straight-part.ensures.left fit.1 fit.0.encoded in
-    half_call g.D.Disk.told g.D.Disk.cells g.D.Disk.arming _ old.stage old.job s old.disk disk c.requires.stage
+    half_call g.D.Disk.known g.D.Disk.cells g.D.Disk.arming _ old.stage old.job s old.disk disk c.requires.stage
     (λ tells. c.in-Ok.ensures.written tells ∙ ap (λ (l : List Sector). written (old.anchor + 1) l cells) pieces_is, c.in-Ok.ensures.arming)
 
 pub returns-in-Err-clause-call : goal.returns-in-Err-clause-call
@@ -153,6 +153,6 @@ returns-in-Err-clause-call g c =
     let disk = c.write.new.self in
     let fit : IsInFlight s old.sectors.items old.count × (old.ring - old.positions.head % old.ring < old.count) = subst (λ (st : Stage). StageFits st s old.sectors.items old.count) c.requires.stage c.requires.store.sound.stage in
     let pieces_is = rest_pieces old.ring old.positions.head old.count c.straight-part.result old.sectors.items (encoded (item_of s)) c.deref.result.now c.deref.ensures.value c.straight-part.ensures.left fit.1 fit.0.encoded in
-    subst (λ (x : Store g.row.D.Denot). Made g.D.Disk.told g.D.Disk.cells g.D.Disk.arming (call_at old.stage old.job (gathered s (state_of x))) (Err WriteFault) old.disk x.disk) (sym c.go_down.ensures)
-    (half_call g.D.Disk.told g.D.Disk.cells g.D.Disk.arming (Err WriteFault) old.stage old.job s old.disk disk c.requires.stage
+    subst (λ (x : Store g.row.D.Denot). Made g.D.Disk.known g.D.Disk.cells g.D.Disk.arming (call_at old.stage old.job (gathered s (state_of x))) (Err WriteFault) old.disk x.disk) (sym c.go_down.ensures)
+    (half_call g.D.Disk.known g.D.Disk.cells g.D.Disk.arming (Err WriteFault) old.stage old.job s old.disk disk c.requires.stage
     (λ tells. subst (λ (l : List Sector). IsPartlyWritten (old.anchor + 1) l cells (g.D.Disk.cells disk)) pieces_is (c.in-Err.ensures.failed tells), c.in-Err.ensures.arming))

@@ -27,9 +27,9 @@ loop-home-init g c =
       sectors = search rules;
       count = omega arith;
       armed = IsAfterWrites-none (d.arming disk);
-      reads = λ told. ap (λ (l : List (ℕ × Sector)). overlaid (as_read (d.cells disk)) (images_in l)) all ∙ ap (overlaid (as_read (d.cells disk))) c.self.view_is;
-      left = λ told one. put_first c.args.self.now (d.cells disk) one;
-      time = λ told one. elapses_none (d.moment disk) (d.left_since disk) (IsPartlyPut c.args.self.now (as_read (d.cells disk)));
+      reads = λ known. ap (λ (l : List (ℕ × Sector)). overlaid (as_read (d.cells disk)) (images_in l)) all ∙ ap (overlaid (as_read (d.cells disk))) c.self.view_is;
+      left = λ known one. put_first c.args.self.now (d.cells disk) one;
+      time = λ known one. elapses_none (d.moment disk) (d.left_since disk) (IsPartlyPut c.args.self.now (as_read (d.cells disk)));
     }
 
 pub loop-home-preserved : goal.loop-home-preserved
@@ -48,23 +48,23 @@ loop-home-preserved g c =
       sectors = c.write.ensures.sectors ∙ inv.sectors;
       count = omega (arith, inv.count, c.write.ensures.cause.never_falls);
       armed = IsAfterWrites-both (d.arming c.args.disk.now) (d.arming c.loop-home.disk) (d.arming c.write.new.self) inv.armed (1, c.write.ensures.arming);
-      reads = λ told.
-          ap (λ (l : List Sector). overlaid l (images_in c.next.new.self)) (ap as_read (c.in_ok-write.ensures.written told) ∙ as_read_put home sector cells)
+      reads = λ known.
+          ap (λ (l : List Sector). overlaid l (images_in c.next.new.self)) (ap as_read (c.in_ok-write.ensures.written known) ∙ as_read_put home sector cells)
           ∙ sym (overlaid-cons (as_read cells) (record { home = home; sector = sector }) (images_in c.next.new.self))
           ∙ ap (λ (l : List (ℕ × Sector)). overlaid (as_read cells) (images_in l)) (sym split)
-          ∙ inv.reads told;
-      left = λ told one image is.
-          put_more c.args.self.now base cells home sector (inv.left told one) left.0 image
-          (subst (λ (cs : List Cell). IsImage cs image) (c.in_ok-write.ensures.written told) is);
-      time = λ told one.
+          ∙ inv.reads known;
+      left = λ known one image is.
+          put_more c.args.self.now base cells home sector (inv.left known one) left.0 image
+          (subst (λ (cs : List Cell). IsImage cs image) (c.in_ok-write.ensures.written known) is);
+      time = λ known one.
           elapses_more (d.moment c.args.disk.now) (d.moment c.loop-home.disk) (d.moment c.write.new.self)
           (d.left_since c.args.disk.now) (d.left_since c.loop-home.disk) (d.left_since c.write.new.self)
           (IsPartlyPut c.args.self.now base) (IsImage (written home (sector ∷ []) cells))
-          (inv.time told one) (c.write.ensures.time told) (put_more c.args.self.now base cells home sector (inv.left told one) left.0);
+          (inv.time known one) (c.write.ensures.time known) (put_more c.args.self.now base cells home sector (inv.left known one) left.0);
     }
 
 pub returns-in_err-write-clause-left : goal.returns-in_err-write-clause-left
-returns-in_err-write-clause-left g c told one image is =
+returns-in_err-write-clause-left g c known one image is =
     let d = g.D.Disk in
     let inv = c.loop-home.invariant in
     let base = as_read (d.cells c.args.disk.now) in
@@ -74,11 +74,11 @@ returns-in_err-write-clause-left g c told one image is =
     let split : c.loop-home.home-iterator ≡ (home, sector) ∷ c.next.new.self =
     rest_more deref_pair c.loop-home.home-iterator c.next.new.self c.next.result (c.in-Some.home, c.in-Some.sector) c.in-Some.is c.next.ensures.steps in
     let left = subst (λ (l : List (ℕ × Sector)). AreLeft c.args.self.now (d.sector_count c.loop-home.disk) l) split inv.rest in
-    put_more c.args.self.now base cells home sector (inv.left told one) left.0 image
-    (IsImage-partly_written home (sector ∷ []) cells (d.cells c.write.new.self) image (c.in_err-write.ensures.failed told) is)
+    put_more c.args.self.now base cells home sector (inv.left known one) left.0 image
+    (IsImage-partly_written home (sector ∷ []) cells (d.cells c.write.new.self) image (c.in_err-write.ensures.failed known) is)
 
 pub returns-in_err-write-clause-time : goal.returns-in_err-write-clause-time
-returns-in_err-write-clause-time g c told one =
+returns-in_err-write-clause-time g c known one =
     let d = g.D.Disk in
     let inv = c.loop-home.invariant in
     let base = as_read (d.cells c.args.disk.now) in
@@ -91,7 +91,7 @@ returns-in_err-write-clause-time g c told one =
     elapses_more (d.moment c.args.disk.now) (d.moment c.loop-home.disk) (d.moment c.write.new.self)
     (d.left_since c.args.disk.now) (d.left_since c.loop-home.disk) (d.left_since c.write.new.self)
     (IsPartlyPut c.args.self.now base) (IsImage (written home (sector ∷ []) cells))
-    (inv.time told one) (c.write.ensures.time told) (put_more c.args.self.now base cells home sector (inv.left told one) left.0)
+    (inv.time known one) (c.write.ensures.time known) (put_more c.args.self.now base cells home sector (inv.left known one) left.0)
 
 pub returns-in_err-write-clause-arming : goal.returns-in_err-write-clause-arming
 returns-in_err-write-clause-arming g c =
@@ -99,10 +99,10 @@ returns-in_err-write-clause-arming g c =
     IsAfterWrites-both (d.arming c.args.disk.now) (d.arming c.loop-home.disk) (d.arming c.write.new.self) c.loop-home.invariant.armed (1, c.write.ensures.arming)
 
 pub returns-clause-reads : goal.returns-clause-reads
-returns-clause-reads g c told =
+returns-clause-reads g c known =
     let d = g.D.Disk in
     let none : c.loop-home.home-iterator ≡ [] =
     rest_all deref_pair c.loop-home.home-iterator c.next.new.self c.next.result c.in-None.is c.next.ensures.steps in
     sym (overlaid-nil (as_read (d.cells c.loop-home.disk)))
     ∙ ap (λ (l : List (ℕ × Sector)). overlaid (as_read (d.cells c.loop-home.disk)) (images_in l)) (sym none)
-    ∙ c.loop-home.invariant.reads told
+    ∙ c.loop-home.invariant.reads known

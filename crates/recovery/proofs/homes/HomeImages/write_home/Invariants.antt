@@ -15,9 +15,9 @@ invariant-loop-home g l = record {
   sectors : g.D.Disk.sector_count l.disk ≡ g.D.Disk.sector_count l.fn.disk;
   count : NeverFalls (g.D.Disk.fault_count l.fn.disk) (g.D.Disk.fault_count l.disk);
   armed : IsAfterWrites (g.D.Disk.arming l.fn.disk) (g.D.Disk.arming l.disk);
-  reads : IsTrue g.D.Disk.told → overlaid (as_read (g.D.Disk.cells l.disk)) (images_in l.home-iterator) ≡ overlaid (as_read (g.D.Disk.cells l.fn.disk)) l.self;
-  left : IsTrue g.D.Disk.told → HasOneImage (g.D.Disk.cells l.fn.disk) → (image : List Sector) → IsImage (g.D.Disk.cells l.disk) image
+  reads : IsTrue g.D.Disk.known → overlaid (as_read (g.D.Disk.cells l.disk)) (images_in l.home-iterator) ≡ overlaid (as_read (g.D.Disk.cells l.fn.disk)) l.self;
+  left : IsTrue g.D.Disk.known → HasOneImage (g.D.Disk.cells l.fn.disk) → (image : List Sector) → IsImage (g.D.Disk.cells l.disk) image
       → IsPartlyPut l.self (as_read (g.D.Disk.cells l.fn.disk)) image;
-  time : IsTrue g.D.Disk.told → HasOneImage (g.D.Disk.cells l.fn.disk) → Elapses (g.D.Disk.moment l.fn.disk) (g.D.Disk.moment l.disk)
+  time : IsTrue g.D.Disk.known → HasOneImage (g.D.Disk.cells l.fn.disk) → Elapses (g.D.Disk.moment l.fn.disk) (g.D.Disk.moment l.disk)
       (g.D.Disk.left_since l.fn.disk) (g.D.Disk.left_since l.disk) (IsPartlyPut l.self (as_read (g.D.Disk.cells l.fn.disk)));
 }

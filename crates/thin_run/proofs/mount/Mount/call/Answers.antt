@@ -6,7 +6,7 @@ use Rattle.thin_run.proofs.Holding.{ThinLaws, Holds-steps, Moves-along}
 use Rattle.thin_run.proofs.mount.Mount.call.Goals as goal
 
 pub returns-clause-holds : goal.returns-clause-holds
-returns-clause-holds g c told first h =
+returns-clause-holds g c known first h =
     let laws : ThinLaws = record {
       added = c.next_record_is_added.ensures.added;
       torn = c.next_record_is_added.ensures.torn;
@@ -28,4 +28,4 @@ returns-clause-holds g c told first h =
       base = ap (λ (s : MountRecord). s.base) answered.story;
       base_small = old.base_small;
       few = omega (arith, old.changes_within, old.lowest_within);
-    }) (Moves-along _ _ _ _ _ (answered.moves told) old _ refl refl refl refl) h
+    }) (Moves-along _ _ _ _ _ (answered.moves known) old _ refl refl refl refl) h

@@ -1,4 +1,4 @@
--- Images that tell a change of the groups of an image: put over what encodes a table, they give what encodes the next one.
+-- Images that carry a change of the groups of an image: put over what encodes a table, they give what encodes the next one.
 use Rattle.std.specs.Prelude.{◌≡◌, ◌≢◌, ◌⊎◌, ◌<◌, ℕ, List, Some, All, Contains, map}
 use Rattle.std.specs.List.Sorted.{IsStrictlyIncreasing}
 use Rattle.geometry.specs.declared.shape.Geometry.{Geometry}
@@ -28,14 +28,14 @@ pub record IsOfGroup (g : Geometry) (layouts : Layouts) (group : ℕ) (chunks : 
 abbrev pub Stays : Geometry → ℕ → Layouts → Group → Layouts → Group → ℕ → Type 0
 Stays g group layouts chunks others next place = metadata g others group next place ≡ metadata g layouts group chunks place
 
--- The images tell how a group changes: each is of the group as it comes to be, and they have each sector of which the format then says something else.
-pub record TellGroup (g : Geometry) (group : ℕ) (layouts : Layouts) (chunks : Group) (others : Layouts) (next : Group) (images : List Image) : Type 0 where
+-- The images carry how a group changes: each is of the group as it comes to be, and they have each sector of which the format then says something else.
+pub record CarryGroup (g : Geometry) (group : ℕ) (layouts : Layouts) (chunks : Group) (others : Layouts) (next : Group) (images : List Image) : Type 0 where
   pub right : All (IsOfGroup g others group next) images
   pub whole : (place : ℕ) → place < group_sectors g → Stays g group layouts chunks others next place ⊎ Contains (homes images) (sector_in g group place)
 
 -- The images of how a group changes: by ascending home, the sectors of which the format then says something else, and no others.
 pub record AreImagesOf (g : Geometry) (group : ℕ) (layouts : Layouts) (chunks : Group) (others : Layouts) (next : Group) (images : List Image) : Type 0 where
-  pub tell : TellGroup g group layouts chunks others next images
+  pub carry : CarryGroup g group layouts chunks others next images
   pub ascend : IsStrictlyIncreasing (homes images)
   pub differ : (place : ℕ) → place < group_sectors g → Contains (homes images) (sector_in g group place) → ¬ Stays g group layouts chunks others next place
 
@@ -44,7 +44,7 @@ abbrev pub IsOfTable : Geometry → Layouts → Table → Image → Type 0
 IsOfTable g layouts t image = (group : ℕ) × (group < g.groups) × IsOfGroup g layouts group (group_of t group) image
 
 -- the same of all groups of a table
-pub record Tell (g : Geometry) (t : Table) (layouts : Layouts) (u : Table) (others : Layouts) (images : List Image) : Type 0 where
+pub record Carry (g : Geometry) (t : Table) (layouts : Layouts) (u : Table) (others : Layouts) (images : List Image) : Type 0 where
   pub right : All (IsOfTable g others u) images
   pub whole : (group place : ℕ) → group < g.groups → place < group_sectors g
       → Stays g group layouts (group_of t group) others (group_of u group) place ⊎ Contains (homes images) (sector_in g group place)

@@ -26,7 +26,7 @@ use Rattle.log_image.specs.Anchor.{HasAnchor}
 use Rattle.log_image.specs.Log.{AreBelow, groups_part}
 use Rattle.whole_image.specs.Front.{anchor_of, ring_of}
 use Rattle.whole_image.specs.Stands.{Stands}
-use Rattle.image_make.specs.Empty.{IsTold, empty_sector, sector_at}
+use Rattle.image_make.specs.Empty.{IsFinished, empty_sector, sector_at}
 use Rattle.image_make.specs.Outcome.{IsEmptyImage}
 use Rattle.image_make.proofs.Places.{at_none}
 
@@ -87,12 +87,12 @@ again None d = refl
 again (Some bytes) d = refl
 
 -- what the format says of a place stands there
-place_holds : (g : Geometry) (image : List Sector) (group place : ℕ) → IsTold g image → group < g.groups → place < group_sectors g
+place_holds : (g : Geometry) (image : List Sector) (group place : ℕ) → IsFinished g image → group < g.groups → place < group_sectors g
     → unwrap_or (metadata g [] group [] place) (sector_at image (sector_in g group place)).bytes ≡ (sector_at image (sector_in g group place)).bytes
-place_holds g image group place told lt low = elim (cases_lt 0 (sector_in g group place)) [
+place_holds g image group place finished lt low = elim (cases_lt 0 (sector_in g group place)) [
   | inl behind ↦
       let o = metadata g [] group [] place in
-      let e : sector_at image (sector_in g group place) ≡ empty_sector g group place = told.groups group place lt low behind in
+      let e : sector_at image (sector_in g group place) ≡ empty_sector g group place = finished.groups group place lt low behind in
       ap (λ (s : Sector). unwrap_or o s.bytes) e ∙ again o zero_sector.bytes ∙ sym (ap (λ (s : Sector). s.bytes) e)
   | inr first ↦
       let none : place ≡ 0 = first_place g group place first in
@@ -119,9 +119,9 @@ by_place groups size s lt =
           absurd (omega arith)
     ]
 
-encoded_at : (g : Geometry) (image : List Sector) (s : ℕ) → IsTold g image → s < anchor_of g → encoded_bytes g (empty_of g) [] (base_of g image) s ≡ bytes_at (base_of g image) s
+encoded_at : (g : Geometry) (image : List Sector) (s : ℕ) → IsFinished g image → s < anchor_of g → encoded_bytes g (empty_of g) [] (base_of g image) s ≡ bytes_at (base_of g image) s
 unfolding encoded_bytes bytes_at sector_in
-encoded_at g image s told lt =
+encoded_at g image s finished lt =
     let size : ℕ = group_sectors g in
     let at = by_place g.groups size s lt in
     let old : List ℕ = (get_or (base_of g image) s zero_sector).bytes in
@@ -129,29 +129,29 @@ encoded_at g image s told lt =
     cond-true (ltb s (anchor_of g)) _ _ (lt-ltb s (anchor_of g) lt)
     ∙ ap (λ (l : Group). unwrap_or (metadata g [] (s / size) l (s % size)) old) (no_chunks g.groups (s / size))
     ∙ ap (λ (x : Sector). unwrap_or (metadata g [] (s / size) [] (s % size)) x.bytes) (is ∙ ap (sector_at image) (sym at.2))
-    ∙ place_holds g image (s / size) (s % size) told at.0 at.1
+    ∙ place_holds g image (s / size) (s % size) finished at.0 at.1
     ∙ ap (λ (x : Sector). x.bytes) (ap (sector_at image) at.2 ∙ sym is)
 
 abbrev sector_of : List ℕ → Sector
 sector_of bytes = record { bytes = bytes }
 
-groups_encoded : (g : Geometry) (image : List Sector) → IsTold g image → base_of g image ≡ encoded g (empty_of g) [] (base_of g image)
+groups_encoded : (g : Geometry) (image : List Sector) → IsFinished g image → base_of g image ≡ encoded g (empty_of g) [] (base_of g image)
 unfolding encoded bytes_at
-groups_encoded g image told =
+groups_encoded g image finished =
     let base : List Sector = base_of g image in
-    let long : length base ≡ anchor_of g = length-take-le (anchor_of g) image (omega (arith, told.size)) in
+    let long : length base ≡ anchor_of g = length-take-le (anchor_of g) image (omega (arith, finished.size)) in
     let same = length-map-range_with_len (λ s. sector_of (encoded_bytes g (empty_of g) [] base s)) 0 (length base) in
     same_lists base (encoded g (empty_of g) [] base) (sym same)
     (λ k d lt.
     get_or_default base k d zero_sector lt
-    ∙ ap sector_of (sym (encoded_at g image k told (omega arith)))
+    ∙ ap sector_of (sym (encoded_at g image k finished (omega arith)))
     ∙ sym (get_or-map-range_with_len (λ s. sector_of (encoded_bytes g (empty_of g) [] base s)) 0 (length base) k k d lt (omega arith)))
 
 -- ---- the anchor and the ring
 
-anchor_there : (g : Geometry) (image : List Sector) → IsGeometry g → IsTold g image → HasAnchor image (anchor_of g) g.ring g.ring 1
-anchor_there g image shape told = record {
-  sector = slice_get-get_or image (anchor_of g) zero_sector (omega (arith, told.size)) ∙ ap (λ (s : Sector). Some s) told.anchor;
+anchor_there : (g : Geometry) (image : List Sector) → IsGeometry g → IsFinished g image → HasAnchor image (anchor_of g) g.ring g.ring 1
+anchor_there g image shape finished = record {
+  sector = slice_get-get_or image (anchor_of g) zero_sector (omega (arith, finished.size)) ∙ ap (λ (s : Sector). Some s) finished.anchor;
   start = (omega arith, omega (arith, shape.ring));
   number = (omega arith, omega arith);
 }
@@ -159,16 +159,16 @@ anchor_there g image shape told = record {
 zero_field : field 8 0 zero_sector.bytes ≡ 0
 zero_field = refl
 
-ring_below : (g : Geometry) (image : List Sector) → IsGeometry g → IsTold g image → AreBelow (ring_of g image) g.ring
-ring_below g image shape told = record {
+ring_below : (g : Geometry) (image : List Sector) → IsGeometry g → IsFinished g image → AreBelow (ring_of g image) g.ring
+ring_below g image shape finished = record {
   each = λ place d lt.
       let behind : List Sector = drop (anchor_of g + 1) image in
-      let long = length-take-le g.ring behind (omega (arith, told.size, length-drop (anchor_of g + 1) image)) in
+      let long = length-take-le g.ring behind (omega (arith, finished.size, length-drop (anchor_of g + 1) image)) in
       let low : place < g.ring = omega arith in
       let is : get_or (ring_of g image) place d ≡ zero_sector =
       get_or_default (ring_of g image) place d zero_sector lt
       ∙ get_or-take g.ring behind place zero_sector low ∙ get_or-drop (anchor_of g + 1) image place zero_sector
-      ∙ told.ring (anchor_of g + 1 + place) (omega arith) in
+      ∙ finished.ring (anchor_of g + 1 + place) (omega arith) in
       let none : field 8 0 (get_or (ring_of g image) place d).bytes ≡ 0 = ap (λ (s : Sector). field 8 0 s.bytes) is ∙ zero_field in
       omega (arith, shape.ring);
 }
@@ -179,14 +179,14 @@ pub stands : ((groups blocks : ℕ) → 1 ≤ groups → groups ≤ MAX_GROUPS �
     → ((g : Geometry) (t : Table) (layouts : Layouts) (base image : List Sector) (position next : ℕ) → HasSuperblock g image → IsLongEnough g image
     → HasAnchor image (anchor_of g) g.ring position next → AreBelow (ring_of g image) position → CanEncode g t layouts base
     → groups_part (anchor_of g) image ≡ encoded g t layouts base → Stands image (closed t) next)
-    → (g : Geometry) (image : List Sector) → IsGeometry g → IsTold g image → IsEmptyImage g image
+    → (g : Geometry) (image : List Sector) → IsGeometry g → IsFinished g image → IsEmptyImage g image
 unfolding bytes_at
-stands empty encodes g image shape told =
+stands empty encodes g image shape finished =
     let base : List Sector = base_of g image in
-    let long : length base ≡ anchor_of g = length-take-le (anchor_of g) image (omega (arith, told.size)) in
-    let has : HasSuperblock g image = record { shape = shape; encoded = told.first } in (
+    let long : length base ≡ anchor_of g = length-take-le (anchor_of g) image (omega (arith, finished.size)) in
+    let has : HasSuperblock g image = record { shape = shape; encoded = finished.first } in (
       has,
       subst (λ (t : Table). Stands image t 1) (closed_empty g)
-          (encodes g (empty_of g) [] base image g.ring 1 has told.size (anchor_there g image shape told) (ring_below g image shape told)
-          (can_encode g base shape (well_formed empty g shape) (omega arith)) (groups_encoded g image told)),
+          (encodes g (empty_of g) [] base image g.ring 1 has finished.size (anchor_there g image shape finished) (ring_below g image shape finished)
+          (can_encode g base shape (well_formed empty g shape) (omega arith)) (groups_encoded g image finished)),
     )

@@ -3,16 +3,16 @@ use Rattle.life_bytes.specs.declared.sector.Sector.{Sector}
 use Rattle.disk_model.specs.Disk.{as_read}
 use Rattle.log_image.specs.Anchor.{anchor_sector}
 use Rattle.whole_image.specs.Front.{anchor_of}
-use Rattle.image_make.specs.Empty.{IsUntold}
+use Rattle.image_make.specs.Empty.{AwaitsSuperblock}
 use Rattle.image_make.specs.Outcome.{IsBlank}
 use Rattle.image_make.proofs.Leaving.{leaves_both}
 use Rattle.image_make.proofs.Putting.{with_at}
-use Rattle.image_make.proofs.Sectors.{on_ok, untold_from}
-use Rattle.image_make.proofs.filling.write_untold.Goals as goal
+use Rattle.image_make.proofs.Sectors.{on_ok, awaits_from}
+use Rattle.image_make.proofs.filling.write_without_superblock.Goals as goal
 
 pub returns-clause-leaves : goal.returns-clause-leaves
 returns-clause-leaves g c =
-    leaves_both g.D.Disk.told g.D.Disk.cells g.D.Disk.sector_count g.D.Disk.moment g.D.Disk.arming g.D.Disk.left_since IsBlank c.args.disk.now c.write_groups.new.disk c.write_behind.new.disk
+    leaves_both g.D.Disk.known g.D.Disk.cells g.D.Disk.sector_count g.D.Disk.moment g.D.Disk.arming g.D.Disk.left_since IsBlank c.args.disk.now c.write_groups.new.disk c.write_behind.new.disk
     c.write_groups.ensures.leaves c.write_behind.ensures.leaves
 
 pub returns-clause-made : goal.returns-clause-made
@@ -20,9 +20,9 @@ returns-clause-made g c = λ tells.
     let image : List Sector = as_read (g.D.Disk.cells c.write_groups.new.disk) in
     let new : List Sector = as_read (g.D.Disk.cells c.write_behind.new.disk) in
     let sector : Sector = c.first_anchor.result in
-    on_ok c.write_behind.result (new ≡ with_at c.from.result (sector ∷ []) image) (IsUntold c.args.g.now new)
+    on_ok c.write_behind.result (new ≡ with_at c.from.result (sector ∷ []) image) (AwaitsSuperblock c.args.g.now new)
     (λ is.
     let there : new ≡ with_at (anchor_of c.args.g.now) (anchor_sector c.args.g.now.ring 1 ∷ []) image =
     is ∙ ap (λ (at : ℕ). with_at at (sector ∷ []) image) c.from.ensures ∙ ap (λ (s : Sector). with_at (anchor_of c.args.g.now) (s ∷ []) image) c.first_anchor.ensures in
-    subst (IsUntold c.args.g.now) (sym there) (untold_from c.args.g.now image (c.in_ok-write_groups.ensures.made tells)))
+    subst (AwaitsSuperblock c.args.g.now) (sym there) (awaits_from c.args.g.now image (c.in_ok-write_groups.ensures.made tells)))
     (c.write_behind.ensures.read tells)
