@@ -1,4 +1,4 @@
--- The changes that the entries of a memory disk's record stand for.
+-- The changes that the entries of a memory disk's record represent.
 use Rattle.std.specs.Prelude.{List, map}
 use Rattle.disk_model.specs.declared.memory_disk.Entry.{Entry}
 use Rattle.disk_model.specs.declared.memory_disk.Entry.TheVariants.{Wrote, Flushed}

@@ -1,4 +1,4 @@
--- A set of blocks as words, and the list of answers that it stands for.
+-- A set of blocks as words, and the list of answers that it represents.
 use Rattle.std.proofs.Common.{◌≡◌, ◌≢◌, ◌<◌, ◌≤◌, ◌+◌, ◌-◌, ℕ, Bool, true, false, cond, List, ◌++◌, length, set, inl, inr, ap, sym, ◌∙◌, arith, get_or-set_same, get_or-set_other}
 use Rattle.std.specs.Prelude.{count_by}
 use Rattle.std.specs.List.{range_with_len, filter}

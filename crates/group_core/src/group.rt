@@ -10,7 +10,7 @@ use life_table::Entry;
 use std::alloc::Global;
 use std::marker::Model;
 
-/// A group behind its lock. The history leads from some table to the one that the state stands for; which table it began at is not kept.
+/// A group behind its lock. The history leads from some table to the one that the state represents; which table it began at is not kept.
 #[derive(Drop)]
 pub struct Group<S> {
     state: S,

@@ -26,14 +26,14 @@ pub trait Staged {
         ensures same { hands_out self.old self.new };
 }
 
-/// A value that stands for the rows, the chunks and the generations of one group.
+/// A value that represents the rows, the chunks and the generations of one group.
 pub trait GroupTable {
     type Change: Staged;
 
     /// The number of the group.
     ghost group: { Self → ℕ };
 
-    /// The table that it stands for: the chunks of its group, whose rows nobody holds.
+    /// The table that it represents: the chunks of its group, whose rows nobody holds.
     ghost table: { Self → Table };
 
     /// For how many changes there is room.

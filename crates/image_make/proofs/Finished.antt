@@ -1,4 +1,4 @@
--- An image without a file stands for the table without a chunk.
+-- An image without a file represents the table without a chunk.
 use Rattle.std.proofs.Common.{◌≡◌, ◌<◌, ◌≤◌, ◌+◌, ◌*◌, ◌/◌, ◌%◌, ℕ, zero, suc, Bool, cond, List, [], ◌∷◌, Option, None, Some, length, drop, get_or, map, eqb, ltb, refl, sym, ap, subst, ◌∙◌, inl, inr, arith}
 use Rattle.std.specs.Prelude.{◌&&◌, unwrap_or, replicate}
 use Rattle.std.proofs.Math.Nat.{div-add-mod, mul-le-mul_left, mul_comm, mod-lt}
@@ -21,11 +21,11 @@ use Rattle.life_table.specs.declared.table.Inode.{Inode}
 use Rattle.life_table.specs.WellFormed.{IsTable}
 use Rattle.sound_image.specs.Places.{bytes_at, sector_in}
 use Rattle.sound_image.specs.Encoding.{Layouts, AreLayouts, CanEncode, layout_of, list_of, page_of, metadata, encoded, encoded_bytes, is_unlinked}
-use Rattle.sound_image.specs.Stands.{HasSuperblock, IsLongEnough}
+use Rattle.sound_image.specs.Superblocks.{HasSuperblock, IsLongEnough}
 use Rattle.log_image.specs.Anchor.{HasAnchor}
 use Rattle.log_image.specs.Log.{AreBelow, groups_part}
 use Rattle.whole_image.specs.Front.{anchor_of, ring_of}
-use Rattle.whole_image.specs.Stands.{Stands}
+use Rattle.whole_image.specs.Represents.{Represents}
 use Rattle.image_make.specs.Empty.{IsFinished, empty_sector, sector_at}
 use Rattle.image_make.specs.Outcome.{IsEmptyImage}
 use Rattle.image_make.proofs.Places.{at_none}
@@ -178,7 +178,7 @@ ring_below g image shape finished = record {
 pub stands : ((groups blocks : ℕ) → 1 ≤ groups → groups ≤ MAX_GROUPS → MIN_BLOCKS ≤ blocks → blocks ≤ MAX_BLOCKS → IsTable (empty_table VERSION groups blocks))
     → ((g : Geometry) (t : Table) (layouts : Layouts) (base image : List Sector) (position next : ℕ) → HasSuperblock g image → IsLongEnough g image
     → HasAnchor image (anchor_of g) g.ring position next → AreBelow (ring_of g image) position → CanEncode g t layouts base
-    → groups_part (anchor_of g) image ≡ encoded g t layouts base → Stands image (closed t) next)
+    → groups_part (anchor_of g) image ≡ encoded g t layouts base → Represents image (closed t) next)
     → (g : Geometry) (image : List Sector) → IsGeometry g → IsFinished g image → IsEmptyImage g image
 unfolding bytes_at
 stands empty encodes g image shape finished =
@@ -186,7 +186,7 @@ stands empty encodes g image shape finished =
     let long : length base ≡ anchor_of g = length-take-le (anchor_of g) image (omega (arith, finished.size)) in
     let has : HasSuperblock g image = record { shape = shape; encoded = finished.first } in (
       has,
-      subst (λ (t : Table). Stands image t 1) (closed_empty g)
+      subst (λ (t : Table). Represents image t 1) (closed_empty g)
           (encodes g (empty_of g) [] base image g.ring 1 has finished.size (anchor_there g image shape finished) (ring_below g image shape finished)
           (can_encode g base shape (well_formed empty g shape) (omega arith)) (groups_encoded g image finished)),
     )

@@ -6,10 +6,10 @@ use Rattle.disk_model.specs.Disk.{Arming, Cell, Elapses, IsAfterWrites, IsImage}
 use Rattle.geometry.specs.declared.shape.Geometry.{Geometry}
 use Rattle.life_table.specs.Table.{empty_table}
 use Rattle.sound_image.specs.Places.{bytes_at}
-use Rattle.sound_image.specs.Stands.{HasSuperblock}
+use Rattle.sound_image.specs.Superblocks.{HasSuperblock}
 use Rattle.whole_image.specs.Damage.{FirstDamage}
 use Rattle.whole_image.specs.Damage.ImageRule.{superblock}
-use Rattle.whole_image.specs.Stands.{Stands}
+use Rattle.whole_image.specs.Represents.{Represents}
 
 -- an image whose sector 0 is zero, and a disk of which a stop leaves no other
 abbrev pub IsBlank : List Sector → Type 0
@@ -18,9 +18,9 @@ IsBlank image = bytes_at image 0 ≡ zero_sector.bytes
 abbrev pub LeavesBlank : List Cell → Type 0
 LeavesBlank cells = (image : List Sector) → IsImage cells image → IsBlank image
 
--- an image with this geometry that stands for the table without chunks; its next commit is the first
+-- an image with this geometry that represents the table without chunks; its next commit is the first
 abbrev pub IsEmptyImage : Geometry → List Sector → Type 0
-IsEmptyImage g image = HasSuperblock g image × Stands image (empty_table g.version g.groups g.blocks) 1
+IsEmptyImage g image = HasSuperblock g image × Represents image (empty_table g.version g.groups g.blocks) 1
 
 -- an image that has no superblock, or is the empty one
 abbrev pub IsBlankOrEmpty : Geometry → List Sector → Type 0

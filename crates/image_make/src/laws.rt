@@ -8,14 +8,14 @@ ghost use Rattle.image_make.specs.Empty.{IsFinished};
 ghost use Rattle.image_make.specs.Outcome.{IsBlank, IsBlankOrEmpty, IsEmptyImage};
 
 use life_table::tables_stay_well_formed;
-use whole_image::{blank_images_are_damaged, encoded_images_stand};
+use whole_image::{blank_images_are_damaged, encoded_images_represent_their_table};
 
-/// Laws of the sectors: without the superblock an image is damaged, and with it the image stands for the empty table.
+/// Laws of the sectors: without the superblock an image is damaged, and with it the image represents the empty table.
 pub(crate) fn made_images()
     ensures blank { (g : Geometry) (image : List Sector) → IsBlank image → IsBlankOrEmpty g image }
     ensures finished { (g : Geometry) (image : List Sector) → IsGeometry g → IsFinished g image → IsEmptyImage g image }
 {
     tables_stay_well_formed();
-    encoded_images_stand();
+    encoded_images_represent_their_table();
     blank_images_are_damaged();
 }

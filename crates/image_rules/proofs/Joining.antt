@@ -5,7 +5,7 @@ use Rattle.life_bytes.specs.declared.sector.Sector.{Sector}
 use Rattle.geometry.specs.declared.shape.Geometry.{Geometry}
 use Rattle.sound_image.specs.Damage.{Rule, number_of, HoldsIn, BreaksIn, FirstDamage}
 use Rattle.image_rules.specs.declared.fault.Damage.{Damage}
-use Rattle.image_rules.specs.Faults.{AllHold, AreJudged, IsFirstBelow, IsFirstIn, IsJudged, IsEarlier, first_rule, second_rule, first_sector, second_sector}
+use Rattle.image_rules.specs.Faults.{AllHold, AreChecked, IsFirstBelow, IsFirstIn, IsChecked, IsEarlier, first_rule, second_rule, first_sector, second_sector}
 
 -- what the law says
 abbrev pub NotBoth : Type 0
@@ -64,14 +64,14 @@ joined not_both one g image n _ _ _ (second_sector a b same le) x y =
     change g image n b.rule b.sector y (λ other less. x.before other (omega arith))
     (λ k other small bad. omega (arith, le, x.least k other small (subst (λ (rule : Rule). BreaksIn g image rule k other) e bad)))
 
-pub both : NotBoth → OneRule → (g : Geometry) (image : List Sector) (n : ℕ) (a b c : Damage) → IsEarlier a b c → AreJudged g image n (Some a) → IsJudged g image n (Some b) → AreJudged g image (n + 1) (Some c)
+pub both : NotBoth → OneRule → (g : Geometry) (image : List Sector) (n : ℕ) (a b c : Damage) → IsEarlier a b c → AreChecked g image n (Some a) → IsChecked g image n (Some b) → AreChecked g image (n + 1) (Some c)
 both not_both one g image n a b c is x y = joined not_both one g image n a b c is x y
 
-pub none_in : NotBoth → (g : Geometry) (image : List Sector) (n : ℕ) (first : Option Damage) → AreJudged g image n first → IsJudged g image n None → AreJudged g image (n + 1) first
+pub none_in : NotBoth → (g : Geometry) (image : List Sector) (n : ℕ) (first : Option Damage) → AreChecked g image n first → IsChecked g image n None → AreChecked g image (n + 1) first
 none_in not_both g image n None x y = λ group lt. up_to (AllHold g image) n group x y lt
 none_in not_both g image n (Some a) x y = keep not_both g image n a.rule a.sector x (λ other less. y other) (λ other bad. absurd (not_both g image x.rule n other (y x.rule) bad))
 
-pub none_before : NotBoth → (g : Geometry) (image : List Sector) (n : ℕ) (second : Option Damage) → AreJudged g image n None → IsJudged g image n second → AreJudged g image (n + 1) second
+pub none_before : NotBoth → (g : Geometry) (image : List Sector) (n : ℕ) (second : Option Damage) → AreChecked g image n None → IsChecked g image n second → AreChecked g image (n + 1) second
 none_before not_both g image n None x y = λ group lt. up_to (AllHold g image) n group x y lt
 none_before not_both g image n (Some b) x y =
     change g image n b.rule b.sector y (λ other less group small. x group small other) (λ k other small bad. absurd (not_both g image y.rule k other (x k small y.rule) bad))

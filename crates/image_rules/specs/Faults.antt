@@ -42,10 +42,10 @@ SpaceHolds g image group = (rule : Rule) → number_of rule ≤ 10 → HoldsIn g
 abbrev pub AllHold : Geometry → List Sector → ℕ → Type 0
 AllHold g image group = (rule : Rule) → HoldsIn g image rule group
 
--- what a judge of a group finds in it: nothing, or its first damage
-abbrev pub IsJudged : Geometry → List Sector → ℕ → Option Damage → Type 0
-IsJudged g image group None = AllHold g image group
-IsJudged g image group (Some damage) = IsFirstIn g image group damage.rule damage.sector
+-- what a check of a group finds in it: nothing, or its first damage
+abbrev pub IsChecked : Geometry → List Sector → ℕ → Option Damage → Type 0
+IsChecked g image group None = AllHold g image group
+IsChecked g image group (Some damage) = IsFirstIn g image group damage.rule damage.sector
 
 -- the first damage of the first groups: the least rule that is broken in one of them, and the least sector at which it is
 pub record IsFirstBelow (g : Geometry) (image : List Sector) (bound number s : ℕ) : Type 0 where
@@ -58,9 +58,9 @@ pub record IsFirstBelow (g : Geometry) (image : List Sector) (bound number s : �
   pub least : (k other : ℕ) → k < bound → BreaksIn g image rule k other → s ≤ other
 
 -- the first groups are sound, or this is their first damage
-abbrev pub AreJudged : Geometry → List Sector → ℕ → Option Damage → Type 0
-AreJudged g image bound None = (group : ℕ) → group < bound → AllHold g image group
-AreJudged g image bound (Some damage) = IsFirstBelow g image bound damage.rule damage.sector
+abbrev pub AreChecked : Geometry → List Sector → ℕ → Option Damage → Type 0
+AreChecked g image bound None = (group : ℕ) → group < bound → AllHold g image group
+AreChecked g image bound (Some damage) = IsFirstBelow g image bound damage.rule damage.sector
 
 -- damage is the first of all groups of the image; other faults say nothing of it
 abbrev pub IsDamage : Geometry → List Sector → CheckFault → Type 0

@@ -7,7 +7,7 @@ ghost use Rattle.geometry.specs.Places.{group_sectors};
 ghost use Rattle.geometry.specs.Shape.{IsGeometry};
 ghost use Rattle.sound_image.specs.Damage.{IsSound};
 ghost use Rattle.image_rules.specs.Counted.{HasTables, IsCounted};
-ghost use Rattle.image_rules.specs.Faults.{AreJudged, IsCaused, IsEarlier, IsDamage, IsJudged, IsOutside};
+ghost use Rattle.image_rules.specs.Faults.{AreChecked, IsCaused, IsEarlier, IsDamage, IsChecked, IsOutside};
 
 use crate::fault::{CheckFault, Damage};
 use crate::space::check_group;
@@ -27,7 +27,7 @@ struct Verdict {
 }
 
 /// What a group holds, or its first damage.
-fn judge<V: View>(
+fn check_one<V: View>(
     alloc: Global,
     view: &mut V,
     g: &Geometry,
@@ -36,7 +36,7 @@ fn judge<V: View>(
     requires shape { IsGeometry g.now }
     requires inside { group < g.now.groups }
     requires size { g.now.groups * group_sectors g.now ≤ V.sector_count view.old }
-    ensures judged { IsTrue V.known → IfOk result (λ verdict. IsJudged g.now (V.image view.old) group verdict.damage) }
+    ensures checked { IsTrue V.known → IfOk result (λ verdict. IsChecked g.now (V.image view.old) group verdict.damage) }
     ensures counted { IsTrue V.known → IfOk result (λ verdict. verdict.damage ≡ None → IsCounted g.now (V.image view.old) group verdict.tables) }
     ensures outside { IfErr result (IsOutside (V.fault_count view.old) (V.fault_count view.new)) }
     ensures only_read { V.only_read view.old view.new }
@@ -73,7 +73,7 @@ fn earlier(first: Damage, second: Damage) -> Damage
 
 /// The first damage of the groups up to and with one.
 fn first_of(first: Option<Damage>, second: Option<Damage>) -> Option<Damage>
-    ensures judged { (g : Geometry) (image : List Sector) (group : ℕ) → AreJudged g image group first → IsJudged g image group second → AreJudged g image (group + 1) result }
+    ensures checked { (g : Geometry) (image : List Sector) (group : ℕ) → AreChecked g image group first → IsChecked g image group second → AreChecked g image (group + 1) result }
     ensures none { result ≡ None → (first ≡ None) × (second ≡ None) }
 {
     rules_hold_or_break();
@@ -84,7 +84,7 @@ fn first_of(first: Option<Damage>, second: Option<Damage>) -> Option<Damage>
     }
 }
 
-/// Judges the groups of an image by all rules on groups, from those of their headers up to those of their unlinked lists. The first damage is by the
+/// Checks the groups of an image by all rules on groups, from those of their headers up to those of their unlinked lists. The first damage is by the
 /// least rule that is broken in a group, and names the least sector at which it is. Each sector is read once.
 pub fn check_groups<V: View>(
     alloc: Global,
@@ -103,7 +103,7 @@ pub fn check_groups<V: View>(
     let mut first = None;
     let mut tables = Tables::NONE;
     for group in 0..g.groups {
-        let found = judge(alloc, view, g, group)?;
+        let found = check_one(alloc, view, g, group)?;
         first = first_of(first, found.damage);
         let Some(sum) = tables.plus(&found.tables) else {
             return Err(CheckFault::NoMemory);

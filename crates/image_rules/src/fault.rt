@@ -1,4 +1,4 @@
-//! Why groups are not sound, or were not judged.
+//! Why groups are not sound, or were not checked.
 
 ghost use Rattle.std.specs.Prelude.{◌≡◌};
 

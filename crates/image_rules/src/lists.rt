@@ -99,7 +99,7 @@ fn damage(g: &Geometry, group: u32, rule: u32, place: u32) -> CheckFault
     }
 }
 
-/// Judges the unlinked lists of a group, where all rules up to that of the bitmap hold. The members that are met are taken out of `links`.
+/// Checks the unlinked lists of a group, where all rules up to that of the bitmap hold. The members that are met are taken out of `links`.
 pub(crate) fn check_lists(
     g: &Geometry,
     group: u32,

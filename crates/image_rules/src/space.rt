@@ -21,7 +21,7 @@ use geometry::Geometry;
 use sound_image::{chunks_are_read, groups_are_counted};
 use std::alloc::Global;
 
-/// What the rules on unlinked lists are judged by.
+/// What the rules on unlinked lists are checked by.
 #[derive(Drop)]
 struct Space {
     header: Agi,
@@ -29,7 +29,7 @@ struct Space {
     tables: Tables,
 }
 
-/// Judges a group by its header, its inode btree, the cores and forks of its inodes, who has which block, and its bitmap.
+/// Checks a group by its header, its inode btree, the cores and forks of its inodes, who has which block, and its bitmap.
 fn check_space<V: View>(
     alloc: Global,
     view: &mut V,
@@ -71,7 +71,7 @@ fn check_space<V: View>(
     })
 }
 
-/// Judges a group by all its rules: its header, its inode btree, the cores and forks of its inodes, who has which block, its bitmap, the pointers of its
+/// Checks a group by all its rules: its header, its inode btree, the cores and forks of its inodes, who has which block, its bitmap, the pointers of its
 /// unlinked buckets, and who is in their lists. Each sector is read once; a bucket is walked in memory, and costs its members.
 pub fn check_group<V: View>(
     alloc: Global,

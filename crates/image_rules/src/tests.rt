@@ -112,7 +112,7 @@ fn group_with_orphan(alloc: Global) -> Result<Vec<Sector>, AllocError>
     Ok(sectors)
 }
 
-fn judged(alloc: Global, sectors: Vec<Sector>) -> Result<Tables, CheckFault> {
+fn checked(alloc: Global, sectors: Vec<Sector>) -> Result<Tables, CheckFault> {
     let Ok(mut disk) = MemoryDisk::with(alloc, sectors) else {
         return Err(CheckFault::NoMemory);
     };
@@ -125,12 +125,12 @@ fn judged(alloc: Global, sectors: Vec<Sector>) -> Result<Tables, CheckFault> {
 #[test]
 fn empty_group_is_right_and_its_damages_are_named(rt: HostRuntime) -> Result<(), Fail> {
     let alloc = rt.alloc();
-    assert_eq!(rt; judged(alloc, empty_group(alloc)?), Ok(Tables::NONE));
+    assert_eq!(rt; checked(alloc, empty_group(alloc)?), Ok(Tables::NONE));
     for (at, rule, sector) in [(2, 5, 2), (20, 6, 16), (8, 10, 8), (11, 10, 11)] {
         let mut sectors = empty_group(alloc)?;
         sectors[at].bytes[5] ^= 1;
         assert_eq!(rt;
-            judged(alloc, sectors),
+            checked(alloc, sectors),
             Err(CheckFault::Damaged { rule, sector }),
             "a bit of sector {at}"
         );
@@ -146,7 +146,7 @@ fn orphan_is_in_its_list_and_damages_of_lists_are_named(rt: HostRuntime) -> Resu
         inodes: 2,
         orphans: 1,
     };
-    assert_eq!(rt; judged(alloc, group_with_orphan(alloc)?), Ok(counted));
+    assert_eq!(rt; checked(alloc, group_with_orphan(alloc)?), Ok(counted));
 
     // no bucket has the orphan
     let mut sectors = group_with_orphan(alloc)?;
@@ -162,7 +162,7 @@ fn orphan_is_in_its_list_and_damages_of_lists_are_named(rt: HostRuntime) -> Resu
         rule: 12,
         sector: 193,
     };
-    assert_eq!(rt; judged(alloc, sectors), Err(unmet));
+    assert_eq!(rt; checked(alloc, sectors), Err(unmet));
 
     // the list goes on to an inode with links, which points at the orphan
     let mut sectors = group_with_orphan(alloc)?;
@@ -177,7 +177,7 @@ fn orphan_is_in_its_list_and_damages_of_lists_are_named(rt: HostRuntime) -> Resu
         rule: 12,
         sector: 192,
     };
-    assert_eq!(rt; judged(alloc, sectors), Err(pointing));
+    assert_eq!(rt; checked(alloc, sectors), Err(pointing));
     let mut sectors = group_with_orphan(alloc)?;
     sectors[193] = inode(
         &Core {
@@ -190,6 +190,6 @@ fn orphan_is_in_its_list_and_damages_of_lists_are_named(rt: HostRuntime) -> Resu
         rule: 11,
         sector: 193,
     };
-    assert_eq!(rt; judged(alloc, sectors), Err(wrong));
+    assert_eq!(rt; checked(alloc, sectors), Err(wrong));
     Ok(())
 }

@@ -77,14 +77,14 @@ holds_own : (chunk : ChunkRec) (start : ℕ) → chunk.start ≡ start → holds
 holds_own chunk start e = and_from _ _ (le-leb chunk.start start (omega (arith, e))) (lt-ltb start (chunk.start + 64) (omega (arith, e)))
 
 -- where an inode's chunk would stand, by the starts
-pub record Stands (chunks : List ChunkRec) (start n : ℕ) : Type 0 where
+pub record Represents (chunks : List ChunkRec) (start n : ℕ) : Type 0 where
   pub within : n ≤ length chunks
   pub before : (k : ℕ) (d : ChunkRec) → k < n → (get_or chunks k d).start < start
   pub after : (k : ℕ) (d : ChunkRec) → n ≤ k → k < length chunks → start < (get_or chunks k d).start
 
 pub stands : (chunks : List ChunkRec) (start n : ℕ) → find (holds start) chunks ≡ None → n ≤ length chunks
     → ((k : ℕ) (d : ChunkRec) → k < n → (get_or chunks k d).start ≤ start)
-    → ((k : ℕ) (d : ChunkRec) → n ≤ k → k < length chunks → start < (get_or chunks k d).start) → Stands chunks start n
+    → ((k : ℕ) (d : ChunkRec) → n ≤ k → k < length chunks → start < (get_or chunks k d).start) → Represents chunks start n
 stands chunks start n absent within before after = record {
   within = within;
   before = λ k d h.
@@ -98,7 +98,7 @@ stands chunks start n absent within before after = record {
 }
 
 -- put in at that place
-pub insert-with_chunk : (chunks : List ChunkRec) (start n : ℕ) → Stands chunks start n → insert chunks n (whole_chunk start) ≡ with_chunk start chunks
+pub insert-with_chunk : (chunks : List ChunkRec) (start n : ℕ) → Represents chunks start n → insert chunks n (whole_chunk start) ≡ with_chunk start chunks
 insert-with_chunk chunks start n at =
     let front : filter (λ c. ltb c.start start) chunks ≡ take n chunks =
     filter_front (λ c. ltb c.start start) chunks n (λ k d h l. lt-ltb _ _ (at.before k d h)) (λ k d h l. le-ltb _ _ (omega (arith, at.after k d h l))) in
@@ -122,7 +122,7 @@ start_above chunks new n k d within h =
     ap (λ (m : ℕ). (get_or (insert chunks n new) m d).start) e ∙ ap (λ (c : ChunkRec). c.start) (get_or-insert_above chunks n new d (k - 1) (omega arith) within)
 
 -- chunks that ascend, with one more put in where it stands
-Ascends-insert : (chunks : List ChunkRec) (new : ChunkRec) (n : ℕ) → Ascends chunks → Stands chunks new.start n → Ascends (insert chunks n new)
+Ascends-insert : (chunks : List ChunkRec) (new : ChunkRec) (n : ℕ) → Ascends chunks → Represents chunks new.start n → Ascends (insert chunks n new)
 Ascends-insert chunks new n ascends at i j d l h =
     let many = length-insert chunks n new at.within in
     elim (cases_order j n) [
@@ -144,7 +144,7 @@ Ascends-insert chunks new n ascends at i j d l h =
       ]
     ]
 
-pub IsLeaf-insert : (chunks : List ChunkRec) (start n : ℕ) → IsLeaf chunks → length chunks < 252 → start < 2 ^ 32 → start % 64 ≡ 0 → Stands chunks start n
+pub IsLeaf-insert : (chunks : List ChunkRec) (start n : ℕ) → IsLeaf chunks → length chunks < 252 → start < 2 ^ 32 → start % 64 ≡ 0 → Represents chunks start n
     → IsLeaf (insert chunks n (whole_chunk start))
 IsLeaf-insert chunks start n leaf room fits aligned at = record {
   few = omega (arith, room, length-insert chunks n (whole_chunk start) at.within);

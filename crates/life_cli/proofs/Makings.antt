@@ -46,7 +46,7 @@ at_one P words path other g h make again holds =
     let ring : decimal g.ring ≡ decimal h.ring = cc in
     subst (λ (p : List ℕ). P p h) paths (subst (λ (k : Geometry). P path k) (same_geometry g h make.2 again.2 groups blocks ring) holds)
 
--- a status that comes neither of the sink nor of want of memory was the run's own
+-- a status that comes neither of the sink nor of running out of memory was the run's own
 pub own_status : (result ended x : Status) → Yields result ended → (status.SinkFault ≡ x → ⊥) → (status.NoMemory ≡ x → ⊥) → result ≡ x → ended ≡ x
 own_status result ended x (inl e) sink memory is = sym e ∙ is
 own_status result ended x (inr (inl e)) sink memory is = absurd (sink (sym e ∙ is))
@@ -71,7 +71,7 @@ making_on : (known : Bool) (g : Geometry) (cells : List Cell) (sectors before af
 making_on known g cells sectors before after result ended yields making = record {
   size = making.size;
   made = λ is. making.made (own_status result ended status.Good yields (λ e. cc) (λ e. cc) is);
-  wherever = making.wherever;
+  crash_safe = making.crash_safe;
   write_fault = λ is. making.write_fault (own_status result ended status.WriteFault yields (λ e. cc) (λ e. cc) is);
   flush_fault = λ is. making.flush_fault (own_status result ended status.FlushFault yields (λ e. cc) (λ e. cc) is);
   read_back = λ is. making.read_back (own_status result ended status.FlushFault yields (λ e. cc) (λ e. cc) is);

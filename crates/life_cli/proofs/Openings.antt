@@ -4,7 +4,7 @@ use Rattle.std.specs.Option.{IfSome}
 use Rattle.std.specs.List.{AllByRecursion}
 use Rattle.life_bytes.specs.declared.sector.Sector.{Sector}
 use Rattle.disk_model.specs.Disk.{Cell, HasOneImage, as_read, settled_as}
-use Rattle.thin_run.specs.Wherever.{IsLeft, LeftWhereKnown}
+use Rattle.thin_run.specs.CrashSafe.{IsLeft, LeftWhereKnown}
 use Rattle.disk_model.specs.DiskLaws.{as_read-settled_as}
 use Rattle.thin_run.specs.declared.command.Command.{Command}
 use Rattle.thin_run.specs.declared.types.Said.{Said}
@@ -12,11 +12,11 @@ use Rattle.thin_run.specs.declared.types.MountRecord.{MountRecord}
 use Rattle.thin_run.specs.declared.types.Status.{Status}
 use Rattle.thin_run.specs.declared.types.Status.TheVariants as status
 use Rattle.life_cli.specs.Outcome.{IsScript, Replied, RefusesScript, image_known}
-use Rattle.thin_run.specs.Outcome.{where_known, StandsWhereKnown, FitWhereKnown, GoesOnWhereKnown, IsLegalOver, IsLogged}
+use Rattle.thin_run.specs.Outcome.{where_known, RepresentsWhereKnown, FitWhereKnown, GoesOnWhereKnown, IsLegalOver, IsLogged}
 use Rattle.life_cli.specs.Script.{commands_of, lines_of}
 use Rattle.thin_run.specs.Story.{unmounted}
 use Rattle.thin_run.specs.Table.{Table}
-use Rattle.thin_run.specs.Thin.{Stands, MountsFit, ring_of}
+use Rattle.thin_run.specs.Thin.{Represents, MountsFit, ring_of}
 
 -- a script has some commands
 some_script : (script : Option (List ℕ)) → (commands : List Command) × IsScript script commands
@@ -45,10 +45,10 @@ reads_as : (cells : List Cell) (image : List Sector) → cells ≡ settled_as im
 reads_as cells image same = ap as_read same ∙ as_read-settled_as image
 
 stands_at : (known : Bool) (cells : List Cell) (at : Option (List Sector)) → (IsTrue known → IfSome at (λ image. cells ≡ settled_as image))
-    → (t : Table) → StandsWhereKnown (where_known known (as_read cells)) t → StandsWhereKnown (image_known known at) t
+    → (t : Table) → RepresentsWhereKnown (where_known known (as_read cells)) t → RepresentsWhereKnown (image_known known at) t
 stands_at false cells at given t stands = tt
 stands_at true cells None given t stands = tt
-stands_at true cells (Some image) given t stands = subst (λ (l : List Sector). Stands l t) (reads_as cells image (given refl)) stands
+stands_at true cells (Some image) given t stands = subst (λ (l : List Sector). Represents l t) (reads_as cells image (given refl)) stands
 
 -- so what is legal over what it reads as is legal over that image
 pub legal_at : (known : Bool) (cells : List Cell) (at : Option (List Sector)) → (IsTrue known → IfSome at (λ image. cells ≡ settled_as image))

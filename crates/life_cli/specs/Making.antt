@@ -45,7 +45,7 @@ EndsMake status.NoMemory = ⊤
 pub record IsMaking (known : Bool) (g : Geometry) (cells : List Cell) (sectors before after : ℕ) (ended : Status) : Type 0 where
   pub size : sectors ≡ sectors_of g
   pub made : ended ≡ status.Good → IsTrue known → HasOneImage cells × IsEmptyImage g (as_read cells)
-  pub wherever : IsTrue known → (image : List Sector) → IsImage cells image → IsBlankOrEmpty g image
+  pub crash_safe : IsTrue known → (image : List Sector) → IsImage cells image → IsBlankOrEmpty g image
   pub write_fault : ended ≡ status.WriteFault → Rose before after
   pub flush_fault : ended ≡ status.FlushFault → Rose before after
   pub read_back : ended ≡ status.FlushFault → IsTrue known → AwaitsSuperblock g (as_read cells) ⊎ IsEmptyImage g (as_read cells)

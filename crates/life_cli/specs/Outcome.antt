@@ -31,7 +31,7 @@ Replied script ended said mounts =
     (commands : List Command) × IsScript script commands × (ended ≡ status.Good → length said ≡ length commands)
     × AnswersAll (take (length said) commands) said mounts
 
--- what was written of a run with a status of its own: the whole output, or a prefix of it where the sink failed; for want of memory maybe the last line alone
+-- what was written of a run with a status of its own: the whole output, or a prefix of it where the sink failed; for running out of memory maybe the last line alone
 abbrev pub IsWritten : Option (List ℕ) → Option (List ℕ) → (Status → List ℕ) → Status → Status → Type 0
 IsWritten before after lines own status.SinkFault =
     AppendsPrefix before after (output_of lines own) ⊎ AppendsPrefix before after (status_line status.NoMemory)

@@ -49,7 +49,7 @@ fn with_status<D>(ended: Ended<D>, status: Status) -> Ended<D>
     }
 }
 
-/// Writes what was printed of a run. Its status becomes that of the sink where that failed, and that of want of memory
+/// Writes what was printed of a run. Its status becomes that of the sink where that failed, and that of running out of memory
 /// where there was none to print.
 fn write_out<D, K: Sink>(
     printed: Result<String, NoMemory>,

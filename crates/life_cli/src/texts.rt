@@ -122,7 +122,7 @@ pub(crate) fn print_made(alloc: Global, sectors: u64, ended: &Status) -> Result<
     Ok(text)
 }
 
-/// The line that tells of want of memory, which takes none.
+/// The line that tells of running out of memory, which takes none.
 pub(crate) fn no_memory_line() -> &'static str
     ensures { result.now ≡ status_line status.NoMemory }
 {

@@ -15,7 +15,7 @@ ghost use Rattle.life_cli.specs.Form.{IsMake, IsNoForm, IsSteps};
 ghost use Rattle.life_cli.specs.Making.{FailedInMake, IsGiven, Makes, sectors_of};
 ghost use Rattle.life_cli.specs.Outcome.{IsScript, IsReadable, WhereKnown, RefusesScript, Replied, EndsAs, image_known, IsEarly, IsWritten, IsUsage, Yields, FaultsExactly, IsTooLongExactly, CompletesAs};
 ghost use Rattle.life_cli.specs.Texts.{make_lines, run_lines};
-ghost use Rattle.thin_run.specs.Wherever.{LeftWhereKnown};
+ghost use Rattle.thin_run.specs.CrashSafe.{LeftWhereKnown};
 ghost use Rattle.thin_run.specs.Outcome.{AnswersAll, IsLegalOver, IsLogged, IsFirst, Caused, FitWhereKnown, where_known, IsRunStatus};
 ghost use Rattle.thin_run.specs.Ending.{stories_of};
 ghost use Rattle.thin_run.specs.declared.types.Status.{Status};
@@ -71,7 +71,7 @@ fn run_steps<I: Images, S: Source>(
     ensures damaged { FitWhereKnown (image_known I.Disk.known (I.image_at images.old path.now)) result.said.items }
     ensures log { IfSome result.disk (λ disk. AllByRecursion (IsLogged (image_known I.Disk.known (I.image_at images.old path.now)) (ring_of (I.Disk.sector_count disk))) result.mounts.items) }
     ensures first { AllByRecursion IsFirst result.mounts.items }
-    ensures wherever { IfSome result.disk (λ disk. LeftWhereKnown (image_known I.Disk.known (I.image_at images.old path.now)) result.mounts.items (I.Disk.cells disk)) }
+    ensures crash_safe { IfSome result.disk (λ disk. LeftWhereKnown (image_known I.Disk.known (I.image_at images.old path.now)) result.mounts.items (I.Disk.cells disk)) }
     ensures given { MatchOption result.disk ((I.given images.new ≡ I.given images.old) × IsEarly result.mounts.items result.said.items)
         (λ disk. (count : ℕ) × (I.given images.new ≡ I.given images.old ++ attached path.now count ∷ [])
         × Caused count (I.Disk.fault_count disk) result.said.items result.mounts.items) }
@@ -106,16 +106,16 @@ pub fn top<I: Images, S: Source, K: Sink>(
     // Each line has its answer, in order, and a line that made a call the reply of that call's entry.
     ensures replies { (path : List ℕ) → IsSteps words.now path → Replied (S.bytes_left script.old) result.status result.said.items result.mounts.items }
 
-    // The entries of each mount are one legal history of the table that the image stands for.
+    // The entries of each mount are one legal history of the table that the image represents.
     ensures legal { (path : List ℕ) → IsSteps words.now path
         → AllByRecursion (IsLegalOver (image_known I.Disk.known (I.image_at images.old path))) result.mounts.items }
     ensures first { AllByRecursion IsFirst result.mounts.items }
     ensures log { (path : List ℕ) → IsSteps words.now path → IfSome result.disk (λ disk. AllByRecursion
         (IsLogged (image_known I.Disk.known (I.image_at images.old path)) (ring_of (I.Disk.sector_count disk))) result.mounts.items) }
 
-    // Wherever the device stops, the image that is left stands for the table after a prefix of the mount's changes that
+    // CrashSafe the device stops, the image that is left represents the table after a prefix of the mount's changes that
     // holds each acknowledged one. Where there was no mount, it is the first image.
-    ensures wherever { (path : List ℕ) → IsSteps words.now path → IfSome result.disk (λ disk.
+    ensures crash_safe { (path : List ℕ) → IsSteps words.now path → IfSome result.disk (λ disk.
         LeftWhereKnown (image_known I.Disk.known (I.image_at images.old path)) result.mounts.items (I.Disk.cells disk)) }
 
     // A mount is damaged exactly where the image is not thin. All other faults are the disk's.

@@ -43,7 +43,7 @@ pub const MAX_LINKS: u32 = 2_147_483_647;
 pub const MAX_GENERATION: u32 = 4_294_967_295;
 /// Unlinked buckets of a group.
 pub const BUCKETS: u32 = 64;
-/// Stands in place of an inode's number in its group where a list ends.
+/// Represents in place of an inode's number in its group where a list ends.
 pub const NO_INODE: u32 = 4_294_967_295;
 /// Holders of one inode: 2^28 - 1.
 pub const MAX_PINS: u32 = 268_435_455;

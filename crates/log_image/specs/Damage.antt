@@ -1,5 +1,5 @@
 -- Where an image's anchor and log are damaged. These are two rules of a sound image, the anchor's before the log's: the
--- log is judged where the anchor is right.
+-- log is checked where the anchor is right.
 use Rattle.std.specs.Prelude.{ℕ, ◌≡◌, ◌≤◌, ◌<◌, ◌+◌, ◌⊎◌, List, length, slice_index_or}
 use Rattle.life_bytes.specs.declared.sector.Sector.{Sector}
 use Rattle.life_bytes.specs.Fields.{field}

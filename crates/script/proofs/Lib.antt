@@ -1,5 +1,5 @@
 pub mod Cuts
 pub mod Ascii
-pub mod Judged
+pub mod Checked
 pub mod Progress
 pub mod Unique

@@ -19,7 +19,7 @@ use Rattle.script.specs.declared.types.Spoken.TheVariants as spoken
 use Rattle.script.specs.Words.{letter_of}
 use Rattle.script.specs.Commands.{call_of, call_word, control_of, control_word}
 use Rattle.script.specs.Meaning.{IsCommand, IsSpoken, Denotes, spoken_words}
-use Rattle.script.proofs.Judged.{control_written}
+use Rattle.script.proofs.Checked.{control_written}
 
 -- the digits of a number are no dots
 no_dot : (n : ℕ) → n < 2 ^ 64 → All (λ b. eqb b 46 ≡ false) (decimal n)

@@ -18,7 +18,7 @@ rule_number rule.WordCount = 3
 rule_number rule.WordForm = 4
 rule_number rule.CallFollows = 5
 
--- what the commands in a line leave to be judged
+-- what the commands in a line leave to be checked
 pub data Outline : Type 0 where
   -- the first word is neither an actor's letter nor a command
   Unknown : Outline

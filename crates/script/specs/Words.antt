@@ -39,7 +39,7 @@ IsNumber low high word = (n : ℕ) × (low ≤ n) × (n ≤ high) × (word ≡ d
 abbrev pub IsHandleText : List ℕ → Type 0
 IsHandleText word = (key : Key) × IsHandle key × (word ≡ handle_text key)
 
--- what a word stands for
+-- what a word represents
 pub data Kind : Type 0 where
   actor : Kind
   name : Kind

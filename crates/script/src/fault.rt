@@ -28,7 +28,7 @@ impl<T: Drop> From<AllocFailed<T>> for ScriptFault {
     }
 }
 
-/// A rule of the grammar. A line is judged by them in this order.
+/// A rule of the grammar. A line is checked by them in this order.
 #[derive(Clone, Copy)]
 pub enum Rule {
     /// Each byte is a blank or printable.

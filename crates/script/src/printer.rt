@@ -147,7 +147,7 @@ pub fn print_run(
     Ok(text)
 }
 
-/// The line that tells of want of memory, which takes none.
+/// The line that tells of running out of memory, which takes none.
 pub fn no_memory_line() -> &'static str
     ensures { result.now ≡ line_of (status_text status.NoMemory) }
 {

@@ -3,7 +3,6 @@ use Rattle.std.proofs.Common.{◌≡◌, ◌+◌, ℕ, Bool, true, false, cond, 
 use Rattle.std.specs.List.{range_with_len}
 use Rattle.life_bytes.specs.declared.sector.Sector.{Sector}
 use Rattle.geometry.specs.declared.shape.Geometry.{Geometry}
-use Rattle.geometry.specs.Superblock.{SuperblocksTell}
 use Rattle.inobt_leaf.specs.declared.chunk.ChunkRec.{ChunkRec}
 use Rattle.inobt_leaf.specs.Masks.{is_set}
 use Rattle.life_table.specs.declared.types.Row.{Row}
@@ -13,7 +12,6 @@ use Rattle.life_table.specs.declared.table.Table.{Table}
 use Rattle.life_table.specs.Table.{Group}
 use Rattle.life_table.specs.History.{closed, closed_inode, closed_row}
 use Rattle.sound_image.specs.Reading.{core_of, blocks_in, inode_read, chunk_read, group_read, rows_of, records_of}
-use Rattle.sound_image.specs.Stands.{Stands}
 use Rattle.sound_image.proofs.Rows.{closed_chunk, row_made}
 
 -- what a change leaves alone, it leaves alone in a list
@@ -50,8 +48,3 @@ table_made version blocks groups = record { version = version; blocks = blocks; 
 pub no_opens : (g : Geometry) (image : List Sector) → closed (rows_of g image) ≡ rows_of g image
 unfolding rows_of
 no_opens g image = ap (table_made g.version g.blocks) (same_all (group_read g image) (map closed_chunk) (group_same g image) (range_with_len 0 g.groups))
-
-pub one_table : SuperblocksTell → (a b : Geometry) (image : List Sector) (t u : Table) → Stands a image t → Stands b image u → (a ≡ b) × (t ≡ u)
-one_table tell a b image t u p q =
-    let same : a ≡ b = tell a b p.superblock.shape q.superblock.shape (sym p.superblock.encoded ∙ q.superblock.encoded) in
-    (same, sym p.rows ∙ ap (λ (g : Geometry). rows_of g image) same ∙ q.rows)

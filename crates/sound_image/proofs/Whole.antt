@@ -1,4 +1,4 @@
--- An image that encodes a table is sound, and stands for the table.
+-- An image that encodes a table is sound.
 use Rattle.std.proofs.Common.{◌≡◌, ℕ, List, Option, None, Some, refl, subst, ◌∙◌, arith}
 use Rattle.std.specs.Option.{option_map}
 use Rattle.life_bytes.specs.declared.sector.Sector.{Sector}
@@ -6,19 +6,16 @@ use Rattle.geometry.specs.declared.shape.Geometry.{Geometry}
 use Rattle.life_table.specs.declared.table.Inode.{Inode}
 use Rattle.life_table.specs.declared.table.Table.{Table}
 use Rattle.life_table.specs.Table.{group_of, inode_in}
-use Rattle.life_table.specs.History.{closed}
 use Rattle.sound_image.specs.Places.{bytes_at, sector_in}
 use Rattle.sound_image.specs.Damage.{Rule, header, tree, core, fork, blocks, bitmap, pointers, lists, HoldsIn, IsSound}
 use Rattle.sound_image.specs.Encoding.{Layouts, CanEncode, inode_sector, metadata, encoded}
-use Rattle.sound_image.specs.Stands.{HasSuperblock, IsLongEnough, Stands}
 use Rattle.sound_image.proofs.Buckets.{pointers_right, lists_right}
 use Rattle.sound_image.proofs.Groups.{in_range}
 use Rattle.sound_image.proofs.Headers.{header_right, page_right, counts_right}
 use Rattle.sound_image.proofs.Metadata.{at_first}
 use Rattle.sound_image.proofs.Ready.{Lower, IsReady, ready}
 use Rattle.sound_image.proofs.Right.{core_right, fork_right, blocks_right, bitmap_right}
-use Rattle.sound_image.proofs.Rows.{rows_are}
-use Rattle.sound_image.proofs.Sectors.{at_rest, length-encoded}
+use Rattle.sound_image.proofs.Sectors.{at_rest}
 
 holds_in : (l : Lower) (g : Geometry) (t : Table) (layouts : Layouts) (image : List Sector) (rule : Rule) (group : ℕ) → IsReady g t layouts image group → HoldsIn g (encoded g t layouts image) rule group
 holds_in l g t layouts image header group r = header_right l g t layouts image group r
@@ -51,12 +48,3 @@ first_stays g t layouts image can =
     at_first g layouts 0 (group_of t 0) r.page_low
     ∙ no_first (inode_in (group_of t 0) 0) (inode_sector g layouts 0 0) (λ x found. omega (arith, in_range g.blocks (group_of t 0) 0 x r.data_of found)) in
     subst (λ (s : ℕ). bytes_at (encoded g t layouts image) s ≡ bytes_at image s) (first_place g) (at_rest g t layouts image 0 0 can.size (omega arith) (omega arith) none)
-
-pub stands : (l : Lower) (g : Geometry) (t : Table) (layouts : Layouts) (image : List Sector) → CanEncode g t layouts image → HasSuperblock g image → IsLongEnough g image
-    → Stands g (encoded g t layouts image) (closed t)
-stands l g t layouts image can super long = record {
-  superblock = record { shape = super.shape; encoded = first_stays g t layouts image can ∙ super.encoded };
-  size = omega (arith, long, length-encoded g t layouts image);
-  sound = sound l g t layouts image can;
-  rows = rows_are l g t layouts image can;
-}

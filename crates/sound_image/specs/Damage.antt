@@ -9,7 +9,7 @@ use Rattle.sound_image.specs.Places.{sector_in, header_place, bitmap_place, bitm
 use Rattle.sound_image.specs.Reading.{page_sector, inode_at, row_at}
 use Rattle.sound_image.specs.Rules.{IsHeaderRight, IsPageRight, AreCountsRight, IsCoreRight, IsForkRight, AreBlocksAlone, IsBitmapRight, Ends, IsWrongPointer, holder, IsListed}
 
--- what the rules are about, in the order in which they are judged
+-- what the rules are about, in the order in which they are checked
 pub data Rule : Type 0 where
   header : Rule
   tree : Rule
@@ -42,7 +42,7 @@ HoldsIn g image bitmap group = (k : ℕ) → k < bitmap_sectors → IsBitmapRigh
 HoldsIn g image pointers group = (bucket : ℕ) → bucket < BUCKETS → Ends g image group bucket
 HoldsIn g image lists group = (agino : ℕ) (row : Row) → row_at g image group agino ≡ Some row → IsListed g image group agino row
 
--- The rule is broken at a sector of a group. Of the tree the header's counts are judged where the page is right, and their sector is the
+-- The rule is broken at a sector of a group. Of the tree the header's counts are checked where the page is right, and their sector is the
 -- header's; of the pointers the sector is the one that holds the wrong one.
 abbrev pub BreaksIn : Geometry → List Sector → Rule → ℕ → ℕ → Type 0
 BreaksIn g image header group s = (s ≡ sector_in g group header_place) × ¬ IsHeaderRight g image group

@@ -4,4 +4,4 @@ pub mod Rules
 pub mod Damage
 pub mod Encoding
 pub mod Counts
-pub mod Stands
+pub mod Superblocks

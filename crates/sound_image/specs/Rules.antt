@@ -1,4 +1,4 @@
--- The rules of a sound image from the headers of its groups on, each at one place. A rule is judged where all rules before
+-- The rules of a sound image from the headers of its groups on, each at one place. A rule is checked where all rules before
 -- it hold, so each may take what the rules before it say for granted.
 use Rattle.std.specs.Prelude.{◌≡◌, ◌≢◌, ◌+◌, ◌*◌, ◌/◌, ◌%◌, ◌<◌, ◌≤◌, ℕ, suc, zero, Bool, List, IsSomeAnd, is_some, length, map, sum_by, All, slice_index}
 use Rattle.std.specs.List.{range_with_len}

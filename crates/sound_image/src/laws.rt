@@ -26,7 +26,6 @@ ghost use Rattle.sound_image.specs.Counts.{inodes_in};
 ghost use Rattle.sound_image.specs.Damage.{Rule, BreaksIn, FirstDamage, HoldsIn, IsSound, number_of};
 ghost use Rattle.sound_image.specs.Rules.{free_set};
 ghost use Rattle.sound_image.specs.Encoding.{Layouts, CanEncode, core_for, header_for, inode_sector, list_of, metadata, next_in, page_bytes, page_place, record_of, encoded};
-ghost use Rattle.sound_image.specs.Stands.{HasSuperblock, IsLongEnough, Stands};
 
 use ag_header::encoded_headers_are_read;
 use extent_fork::encoded_forks_are_read;
@@ -36,12 +35,10 @@ use inobt_leaf::encoded_pages_are_read;
 use inode_core::encoded_cores_are_read;
 
 /// A law: what encodes a well-formed table with layouts of it, bucket lists of its rows without links among them, is sound, and the rows, chunks and generations read from
-/// it are the table's, with no opens. Where the sectors before had the superblock and were enough, it stands for that table.
+/// it are the table's, with no opens.
 pub fn encoded_images_are_sound()
     ensures sound { (g : Geometry) (t : Table) (layouts : Layouts) (image : List Sector) → CanEncode g t layouts image → IsSound g (encoded g t layouts image) }
     ensures rows { (g : Geometry) (t : Table) (layouts : Layouts) (image : List Sector) → CanEncode g t layouts image → rows_of g (encoded g t layouts image) ≡ closed t }
-    ensures stands { (g : Geometry) (t : Table) (layouts : Layouts) (image : List Sector) → CanEncode g t layouts image → HasSuperblock g image → IsLongEnough g image
-        → Stands g (encoded g t layouts image) (closed t) }
 {
     encoded_cores_are_read();
     encoded_headers_are_read();
@@ -150,11 +147,4 @@ pub fn groups_are_counted()
     encoded_pages_are_read();
     encoded_forks_are_read();
     numbers_hold_their_bits();
-}
-
-/// A law: an image stands for one table, with one geometry.
-pub fn images_stand_for_one_table()
-    ensures { (a b : Geometry) (image : List Sector) (t u : Table) → Stands a image t → Stands b image u → (a ≡ b) × (t ≡ u) }
-{
-    superblocks_tell_geometries();
 }

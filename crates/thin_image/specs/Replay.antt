@@ -1,4 +1,4 @@
--- What an image of the first kind stands for: 64 inode sectors, and behind them the ring of a log.
+-- What an image of the first kind represents: 64 inode sectors, and behind them the ring of a log.
 use Rattle.std.specs.Prelude.{◌≡◌, ◌≤◌, ◌<◌, ◌+◌, ◌*◌, ◌^◌, ℕ, List, length, take, drop, slice_index_or, slice_set}
 use Rattle.std.specs.List.{All, AllPairs, Contains, fold, sum_by}
 use Rattle.life_limits.specs.declared.TheConstants.{MOUNT_LIMIT}

@@ -1,5 +1,5 @@
 //! Images of the first kind: 64 inode sectors, and behind them the ring of a log that is written once. What such
-//! an image stands for after a stop.
+//! an image represents after a stop.
 #![tactic(auto)]
 
 mod image;

@@ -16,12 +16,12 @@ use Rattle.thin_run.specs.Log.{LogState}
 use Rattle.thin_run.specs.Run.{DiskHolds}
 use Rattle.thin_run.specs.Standing.{IsUp, HoldsBy, Holds}
 use Rattle.thin_run.specs.Table.{Table, key_at}
-use Rattle.thin_run.specs.Thin.{Origin, Begins, Stands, StandsAt, ring_of, table_of}
-use Rattle.thin_run.specs.Wherever.{IsPrefix, IsLeft}
+use Rattle.thin_run.specs.Thin.{Origin, Begins, Represents, RepresentsAt, ring_of, table_of}
+use Rattle.thin_run.specs.CrashSafe.{IsPrefix, IsLeft}
 use Rattle.thin_run.proofs.Tables.{unheld-table_of}
 
--- an image that a mount begins with stands for the mount's first table
-stands_first : (image : List Sector) (o : Origin) → Begins image o → StandsAt image (After o.first [] 0) (o.base + 0)
+-- an image that a mount begins with represents the mount's first table
+stands_first : (image : List Sector) (o : Origin) → Begins image o → RepresentsAt image (After o.first [] 0) (o.base + 0)
 stands_first image o (records, b) =
     let rows = b.rows in
     let first : After o.first [] 0 ≡ o.first = ap (λ (t : Table). unheld t) rows.3 ∙ unheld-table_of rows.0 ∙ sym rows.3 in (
@@ -53,12 +53,12 @@ Holds-fresh sectors o m cells fresh begins size small =
     let position : m.ring + m.place ≡ o.start = ap (λ (l : LogState). l.position) fresh.log in
     let ring : m.ring ≡ length (ring_part (as_read cells)) =
     fresh.ring ∙ omega (arith, length-drop 64 (as_read cells), length-as_read cells, size, small) in
-    let P : List Entry → ℕ → ℕ → Type 0 = λ es n b. StandsAt (as_read (flushed cells)) (After o.first es n) (b + n) in
+    let P : List Entry → ℕ → ℕ → Type 0 = λ es n b. RepresentsAt (as_read (flushed cells)) (After o.first es n) (b + n) in
     let stands : P m.story.entries.items m.story.acknowledged m.story.base =
     subst (λ (es : List Entry). P es m.story.acknowledged m.story.base) (sym fresh.entries)
     (subst (λ (n : ℕ). P [] n m.story.base) (sym acknowledged)
     (subst (λ (b : ℕ). P [] 0 b) (sym fresh.base)
-    (subst (λ (l : List Sector). StandsAt l (After o.first [] 0) (o.base + 0)) (sym reads) (stands_first (as_read cells) o begins)))) in
+    (subst (λ (l : List Sector). RepresentsAt l (After o.first [] 0) (o.base + 0)) (sym reads) (stands_first (as_read cells) o begins)))) in
     let up : IsUp o.first m (flushed cells) = record {
       one = HasOneImage-flushed cells;
       prefix = record { acknowledged = omega arith; made = omega (arith, acknowledged); stands = stands };
@@ -81,7 +81,7 @@ pub DiskHolds-fresh : (image : List Sector) (sectors : ℕ) (o : Origin) (m : Mo
 DiskHolds-fresh image sectors o m cells after (Some other) none fresh begins size small is h = absurd (true≢false none)
 DiskHolds-fresh image sectors o m cells after None none fresh begins size small is h = (
   o.first,
-  subst (λ (l : List Sector). Stands l o.first) h.1 (begins.0, begins.1.thin, begins.1.rows),
+  subst (λ (l : List Sector). Represents l o.first) h.1 (begins.0, begins.1.thin, begins.1.rows),
   subst (λ (c : List Cell). Holds o.first m c) (sym is) (Holds-fresh sectors o m cells fresh begins size small),
 )
 

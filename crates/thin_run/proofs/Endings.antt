@@ -8,7 +8,7 @@ use Rattle.thin_run.specs.declared.runner.Run.{Run}
 use Rattle.thin_run.specs.declared.command.Command.{Command}
 use Rattle.thin_run.specs.declared.types.MountRecord.{MountRecord}
 use Rattle.thin_run.specs.Ending.{stories_of}
-use Rattle.thin_run.specs.Outcome.{all_entries, where_known, StandsWhereKnown, GoesOnWhereKnown, IsLegalOver, IsLogged, IsFirst, Caused}
+use Rattle.thin_run.specs.Outcome.{all_entries, where_known, RepresentsWhereKnown, GoesOnWhereKnown, IsLegalOver, IsLogged, IsFirst, Caused}
 use Rattle.thin_run.specs.Run.{FitsDisk, HaveHistory, entries_of, fault_state}
 use Rattle.thin_run.specs.Story.{Told}
 use Rattle.thin_run.specs.Thin.{Origin, Begins, ring_of}
@@ -21,7 +21,7 @@ pub all_entries-stories_of : (mount : Option Mount) → all_entries (stories_of 
 all_entries-stories_of None = refl
 all_entries-stories_of (Some m) = append-nil m.story.entries.items
 
-stands : (known : Bool) (image : List Sector) (o : Origin) → (IsTrue known → Begins image o) → StandsWhereKnown (where_known known image) o.first
+stands : (known : Bool) (image : List Sector) (o : Origin) → (IsTrue known → Begins image o) → RepresentsWhereKnown (where_known known image) o.first
 stands true image o begins =
     let b = begins refl in
     (b.0, b.1.thin, b.1.rows)
@@ -34,7 +34,7 @@ goes_on true image o base same begins =
     (b.0, b.1.thin, b.1.start, same ∙ b.1.base)
 goes_on false image o base same begins = tt
 
--- the entries of the mount that is up are legal from the table that the image stands for
+-- the entries of the mount that is up are legal from the table that the image represents
 pub stories_of-legal : (known : Bool) (image : List Sector) (mount : Option Mount)
     → ((o : Origin) × HaveHistory o mount × (IsTrue known → is_some mount ≡ true → Begins image o))
     → AllByRecursion (IsLegalOver (where_known known image)) (stories_of mount)

@@ -32,8 +32,8 @@ use Rattle.thin_run.specs.Mount.{log_of, faults_of, next_record, LeavesStory}
 use Rattle.thin_run.specs.Standing.{CanEncode, Records, Moves, IsUp, IsDown, HoldsBy, Holds}
 use Rattle.thin_run.specs.Story.{FaultState, ReplyCause}
 use Rattle.thin_run.specs.Table.{Table, key_at}
-use Rattle.thin_run.specs.Thin.{StandsAt, RowsOf, table_of}
-use Rattle.thin_run.specs.Wherever.{IsPrefix}
+use Rattle.thin_run.specs.Thin.{RepresentsAt, RowsOf, table_of}
+use Rattle.thin_run.specs.CrashSafe.{IsPrefix}
 use Rattle.thin_run.proofs.Homes.{length-encoded}
 use Rattle.thin_run.proofs.Tables.{After-all, fold-table_of}
 use Rattle.thin_run.proofs.Torn.{all_or_one, partly_over, same_homes, has_sectors, written_sectors}
@@ -83,8 +83,8 @@ prefix_more first old new more image n on acknowledged is =
     record {
       acknowledged = acknowledged;
       made = omega (arith, is.made);
-      stands = subst (λ (t : Table). StandsAt image t (new.base + n)) (sym table)
-          (subst (λ (b : ℕ). StandsAt image (After first old.entries.items n) (b + n)) (sym on.base) is.stands);
+      stands = subst (λ (t : Table). RepresentsAt image t (new.base + n)) (sym table)
+          (subst (λ (b : ℕ). RepresentsAt image (After first old.entries.items n) (b + n)) (sym on.base) is.stands);
     }
 
 -- ---- the write of a record
@@ -186,11 +186,11 @@ length-with_used : (in_use : List Bool) (places : List ℕ) → length (with_use
 length-with_used in_use [] = refl
 length-with_used in_use (place ∷ places) = length-with_used (set in_use place true) places ∙ length-set in_use place true
 
--- an image that has the whole record stands for the table after all changes
+-- an image that has the whole record represents the table after all changes
 pub stands_whole : (laws : ThinLaws) (first : Table) (m : Mount) (cells : List Cell) (image : List Sector) → Writes first m cells
     → IsTorn (64 + m.place) (encoded (next_record m)) (as_read cells) image
     → ((i : ℕ) → i < sector_count (length (next_record m).images) → HasSector (ring_part image) (next_record m) i)
-    → StandsAt image (After first m.story.entries.items (length (changes m.story.entries.items))) (m.story.base + length (changes m.story.entries.items))
+    → RepresentsAt image (After first m.story.entries.items (length (changes m.story.entries.items))) (m.story.base + length (changes m.story.entries.items))
     × IsBehind (ring_part image) ((next_record m).position + sector_count (length (next_record m).images))
 stands_whole laws first m cells image w torn all =
     let stands = w.up.prefix.stands in
@@ -239,11 +239,11 @@ stands_whole laws first m cells image w torn all =
       log.1,
     )
 
--- an image that lacks some of it stands for the table as before
+-- an image that lacks some of it represents the table as before
 pub stands_torn : (laws : ThinLaws) (first : Table) (m : Mount) (cells : List Cell) (image : List Sector) (i : ℕ) → Writes first m cells
     → IsTorn (64 + m.place) (encoded (next_record m)) (as_read cells) image
     → i < sector_count (length (next_record m).images) → SameAt (ring_part (as_read cells)) (ring_part image) ((next_record m).position + i)
-    → StandsAt image (After first m.story.entries.items m.story.acknowledged) (m.story.base + m.story.acknowledged)
+    → RepresentsAt image (After first m.story.entries.items m.story.acknowledged) (m.story.base + m.story.acknowledged)
 stands_torn laws first m cells image i w torn within same =
     let stands = w.up.prefix.stands in
     let records = stands.0 in

@@ -1,4 +1,4 @@
--- An image stands for one table.
+-- An image represents one table.
 use Rattle.std.proofs.Common.{◌≡◌, ◌≢◌, ◌<◌, ◌↔◌, ℕ, Bool, true, false, List, [], Option, Some, length, get_or, slice_get, refl, sym, ap, ◌∙◌, subst, arith}
 use Rattle.std.proofs.lemmas.List.{ext_get_or}
 use Rattle.std.proofs.lemmas.Option.{slice_get-get_or}
@@ -8,7 +8,7 @@ use Rattle.log_record.specs.declared.record.LogRecord.{LogRecord}
 use Rattle.thin_image.specs.Inodes.{IsUse}
 use Rattle.thin_image.specs.Replay.{IsLog, homes, replayed, ring_part}
 use Rattle.thin_run.specs.Table.{Table}
-use Rattle.thin_run.specs.Thin.{Stands, RowsOf, table_of}
+use Rattle.thin_run.specs.Thin.{Represents, RowsOf, table_of}
 
 -- two flags that say the same of a sector
 one_flag : (a b : Bool) (P : Type 0) → ((a ≡ true → ¬ P) × (a ≡ false → P)) → ((b ≡ true → ¬ P) × (b ≡ false → P)) → a ≡ b
@@ -38,7 +38,7 @@ one_rows : (sectors : List Sector) (a b : Table) → RowsOf sectors a → RowsOf
 one_rows sectors a b ra rb = ra.3 ∙ ap table_of (one_use sectors ra.0 rb.0 ra.1 rb.1 ra.2 rb.2) ∙ sym rb.3
 
 pub one_table : ((ring : List Sector) (a b : List LogRecord) → IsLog ring a → IsLog ring b → a ≡ b)
-    → (image : List Sector) (a b : Table) → Stands image a → Stands image b → a ≡ b
+    → (image : List Sector) (a b : Table) → Represents image a → Represents image b → a ≡ b
 one_table one image a b sa sb =
     let records : sb.0 ≡ sa.0 = one (ring_part image) sb.0 sa.0 sb.1.log sa.1.log in
     one_rows (replayed (homes image) sa.0) a b sa.2 (subst (λ (l : List LogRecord). RowsOf (replayed (homes image) l) b) records sb.2)

@@ -13,4 +13,4 @@ pub mod Story
 pub mod Table
 pub mod Thin
 pub mod Walk
-pub mod Wherever
+pub mod CrashSafe

@@ -7,7 +7,7 @@ use Rattle.thin_run.specs.Story.{Told, IsStory, Answers, AnswerState, unmounted,
 use Rattle.thin_run.specs.Table.{Table, LegalHistory}
 use Rattle.thin_image.specs.Replay.{IsThinWith, IsStart, ring_part, next_commit}
 use Rattle.log_record.specs.declared.record.LogRecord.{LogRecord}
-use Rattle.thin_run.specs.Thin.{Stands, MountsFit}
+use Rattle.thin_run.specs.Thin.{Represents, MountsFit}
 use Rattle.thin_run.specs.declared.command.Command.{Command}
 use Rattle.thin_run.specs.declared.types.Entry.{Entry}
 use Rattle.thin_run.specs.declared.types.MountRecord.{MountRecord}
@@ -36,18 +36,18 @@ abbrev pub where_known : Bool → List Sector → Option (List Sector)
 where_known true image = Some image
 where_known false image = None
 
--- a run that was given a disk ends well, or for want of memory
+-- a run that was given a disk ends well, or for running out of memory
 abbrev pub IsRunStatus : Status → Type 0
 IsRunStatus ended = (ended ≡ status.Good) ⊎ (ended ≡ status.NoMemory)
 
--- the image, where it is known, stands for this table
-abbrev pub StandsWhereKnown : Option (List Sector) → Table → Type 0
-StandsWhereKnown None t = ⊤
-StandsWhereKnown (Some image) t = Stands image t
+-- the image, where it is known, represents this table
+abbrev pub RepresentsWhereKnown : Option (List Sector) → Table → Type 0
+RepresentsWhereKnown None t = ⊤
+RepresentsWhereKnown (Some image) t = Represents image t
 
--- the mount's entries are one legal history of the table that the image stands for
+-- the mount's entries are one legal history of the table that the image represents
 abbrev pub IsLegalOver : Option (List Sector) → MountRecord → Type 0
-IsLegalOver image m = (first : Table) × StandsWhereKnown image first × ((last : Table) × LegalHistory first m.entries.items last)
+IsLegalOver image m = (first : Table) × RepresentsWhereKnown image first × ((last : Table) × LegalHistory first m.entries.items last)
 
 -- a mount line was damaged exactly where the image, if it is known, is not thin
 abbrev pub FitWhereKnown : Option (List Sector) → List Said → Type 0

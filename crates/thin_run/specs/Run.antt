@@ -11,7 +11,7 @@ use Rattle.thin_run.specs.Story.{AnswerState, unmounted, AnswersLine, FaultState
 use Rattle.thin_run.specs.Table.{Table, LegalHistory}
 use Rattle.disk_model.specs.Disk.{Cell, HasOneImage, as_read}
 use Rattle.thin_run.specs.Standing.{Holds}
-use Rattle.thin_run.specs.Thin.{ring_of, Origin, Begins, MountFits, Stands}
+use Rattle.thin_run.specs.Thin.{ring_of, Origin, Begins, MountFits, Represents}
 
 -- the mount is over a disk of so many sectors
 abbrev pub FitsDisk : Option Mount → ℕ → Type 0
@@ -68,7 +68,7 @@ pub record KeepsImage (old new : Option Mount) (before after : List Sector) (sai
 -- what the disk holds: while no mount is up, the first image alone; then what the mount that is up holds of it
 abbrev pub DiskHolds : List Sector → Option Mount → List Cell → Type 0
 DiskHolds image None cells = HasOneImage cells × (as_read cells ≡ image)
-DiskHolds image (Some m) cells = (first : Table) × Stands image first × Holds first m cells
+DiskHolds image (Some m) cells = (first : Table) × Represents image first × Holds first m cells
 
 -- what the mount tells is as before
 abbrev pub LeaveStory : Option Mount → Option Mount → Type 0

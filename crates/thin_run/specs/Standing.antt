@@ -11,7 +11,7 @@ use Rattle.thin_run.specs.declared.types.Reply.TheVariants as reply
 use Rattle.thin_run.specs.Changes.{changes}
 use Rattle.thin_run.specs.Mount.{next_record}
 use Rattle.thin_run.specs.Table.{Table, key_at}
-use Rattle.thin_run.specs.Wherever.{IsPrefix}
+use Rattle.thin_run.specs.CrashSafe.{IsPrefix}
 
 -- the record of what is pending can be encoded
 pub record CanEncode (m : Mount) : Type 0 where

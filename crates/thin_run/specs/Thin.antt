@@ -23,13 +23,13 @@ table_of in_use = map (λ used. if used then Some kept_row else None) in_use
 abbrev pub RowsOf : List Sector → Table → Type 0
 RowsOf sectors t = (in_use : List Bool) × (length in_use ≡ 64) × IsUse sectors in_use × (t ≡ table_of in_use)
 
--- an image stands for the table of its inode sectors, overlaid by the records of its log
-abbrev pub Stands : List Sector → Table → Type 0
-Stands image t = (records : List LogRecord) × IsThinWith image records × RowsOf (replayed (homes image) records) t
+-- an image represents the table of its inode sectors, overlaid by the records of its log
+abbrev pub Represents : List Sector → Table → Type 0
+Represents image t = (records : List LogRecord) × IsThinWith image records × RowsOf (replayed (homes image) records) t
 
 -- the same, with the number of its next commit, for an image of which a mount need not come up
-abbrev pub StandsAt : List Sector → Table → ℕ → Type 0
-StandsAt image t next =
+abbrev pub RepresentsAt : List Sector → Table → ℕ → Type 0
+RepresentsAt image t next =
     (records : List LogRecord) × IsThinUpTo (2 ^ 64 - 1) image records × RowsOf (replayed (homes image) records) t × (next ≡ next_commit records)
 
 -- what a mount begins with: its table, where its log goes on, and the number of its first change

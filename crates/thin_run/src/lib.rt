@@ -11,6 +11,6 @@ mod table;
 mod types;
 
 pub use command::Command;
-pub use laws::images_stand_for_one_table;
+pub use laws::images_represent_one_table;
 pub use run::run_over;
 pub use types::{Call, Ended, Entry, Event, Key, LineReply, MountRecord, Reply, Said, Status};

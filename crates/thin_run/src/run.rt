@@ -6,7 +6,7 @@ ghost use Rattle.disk_model.specs.Disk.{HasOneImage, as_read};
 ghost use Rattle.thin_run.specs.Thin.{ring_of};
 ghost use Rattle.thin_run.specs.Outcome.{AnswersAll, IsLegalOver, IsLogged, IsFirst, Caused, FitWhereKnown, where_known, IsRunStatus};
 ghost use Rattle.thin_run.specs.Ending.{stories_of};
-ghost use Rattle.thin_run.specs.Wherever.{IsLeft};
+ghost use Rattle.thin_run.specs.CrashSafe.{IsLeft};
 ghost use Rattle.thin_run.specs.declared.types.Status.TheVariants as status;
 
 use crate::command::Command;
@@ -36,7 +36,7 @@ pub fn run_over<D: Disk>(alloc: Global, mut disk: D, commands: &[Command]) -> En
     ensures damaged { FitWhereKnown (where_known D.known (as_read (D.cells disk))) result.said.items }
     ensures log { IfSome result.disk (λ after. AllByRecursion (IsLogged (where_known D.known (as_read (D.cells disk))) (ring_of (D.sector_count after))) result.mounts.items) }
     ensures first { AllByRecursion IsFirst result.mounts.items }
-    ensures wherever { IsTrue D.known → HasOneImage (D.cells disk) → IfSome result.disk (λ after. IsLeft (as_read (D.cells disk)) result.mounts.items (D.cells after)) }
+    ensures crash_safe { IsTrue D.known → HasOneImage (D.cells disk) → IfSome result.disk (λ after. IsLeft (as_read (D.cells disk)) result.mounts.items (D.cells after)) }
     ensures caused { IfSome result.disk (λ after. Caused (D.fault_count disk) (D.fault_count after) result.said.items result.mounts.items) }
     ensures given_back { IfSome result.disk (λ after. D.sector_count after ≡ D.sector_count disk) }
     ensures disk { IsSome result.disk }

@@ -10,7 +10,7 @@ use Rattle.sound_image.specs.Damage.{Holds as HoldsInGroups}
 use Rattle.sound_image.specs.Damage.{Breaks as BreaksInGroups}
 use Rattle.sound_image.specs.Damage.{FirstDamage as FirstDamageOfGroups}
 use Rattle.sound_image.specs.Damage.{IsSound as GroupsAreSound}
-use Rattle.sound_image.specs.Stands.{HasSuperblock, IsLongEnough}
+use Rattle.sound_image.specs.Superblocks.{HasSuperblock, IsLongEnough}
 use Rattle.log_record.specs.declared.record.LogRecord.{LogRecord}
 use Rattle.log_image.specs.Anchor.{HasAnchor}
 use Rattle.log_image.specs.Log.{Log, HasLog, IsLogTo, end_of}

@@ -1,4 +1,4 @@
--- What sound images stand for.
+-- What sound images represent.
 use Rattle.std.proofs.Common.{◌≡◌, ℕ, ◌+◌, ◌≤◌, List, [], length, refl, sym, ap, subst, ◌∙◌, arith}
 use Rattle.life_bytes.specs.declared.sector.Sector.{Sector}
 use Rattle.life_bytes.specs.Sectors.{zero_sector}
@@ -14,13 +14,13 @@ use Rattle.sound_image.specs.Damage.{IsSound as GroupsAreSound}
 use Rattle.sound_image.specs.Places.{bytes_at}
 use Rattle.sound_image.specs.Reading.{rows_of}
 use Rattle.sound_image.specs.Encoding.{Layouts, CanEncode, encoded}
-use Rattle.sound_image.specs.Stands.{HasSuperblock, IsLongEnough}
+use Rattle.sound_image.specs.Superblocks.{HasSuperblock, IsLongEnough}
 use Rattle.log_image.specs.Anchor.{HasAnchor}
 use Rattle.log_image.specs.Log.{AreBelow, IsLog, Log, empty_log, groups_part, ring_part}
 use Rattle.log_image.specs.Overlay.{overlaid}
 use Rattle.whole_image.specs.Front.{anchor_of, ring_of}
 use Rattle.whole_image.specs.Damage.{ImageRule, superblock, size, anchor, log, of_groups, number_of, Tells, groups_of, Holds, FirstDamage, IsSound}
-use Rattle.whole_image.specs.Stands.{Stands}
+use Rattle.whole_image.specs.Represents.{Represents}
 use Rattle.whole_image.proofs.Unique.{Lower, one_geometry, one_said}
 use Rattle.whole_image.proofs.Damages.{five, front_holds, groups_hold}
 
@@ -32,7 +32,7 @@ all_hold lower g image said tells sound log = front_holds lower g image said log
 all_hold lower g image said tells sound (of_groups rule) = groups_hold lower g image said rule tells (sound rule)
 
 pub made : Lower → (g : Geometry) (image : List Sector) (said : Log) → Tells g image said → GroupsAreSound g (groups_of g image said)
-    → Stands image (rows_of g (groups_of g image said)) said.next
+    → Represents image (rows_of g (groups_of g image said)) said.next
 made lower g image said tells sound =
     record { sound = all_hold lower g image said tells sound; geometry = g; said = said; tells = tells; rows = refl; next = refl }
 
@@ -44,21 +44,21 @@ heard image sound =
     let right = sound log first.0 front.0 front.1 first.1 front.2 in
     (first.0, right.0, record { superblock = first.1; log = record { size = sound size first.0 first.1; says = (front.0, front.1, front.2, right.1) } })
 
-pub stand : Lower → (image : List Sector) → IsSound image → (t : Table) × (c : ℕ) × Stands image t c
+pub stand : Lower → (image : List Sector) → IsSound image → (t : Table) × (c : ℕ) × Represents image t c
 stand lower image sound =
     let at = heard image sound in
     (rows_of at.0 (groups_of at.0 image at.1), at.1.next, made lower at.0 image at.1 at.2 (λ rule. sound (of_groups rule) at.0 at.1 at.2))
 
 pub well_formed : ((g : Geometry) (image : List Sector) → IsGeometry g → GroupsAreSound g image → IsTable (rows_of g image))
-    → (image : List Sector) (t : Table) (c : ℕ) → Stands image t c → IsTable t
+    → (image : List Sector) (t : Table) (c : ℕ) → Represents image t c → IsTable t
 well_formed tables image t c stands =
     subst IsTable stands.rows
     (tables stands.geometry (groups_of stands.geometry image stands.said) stands.tells.superblock.shape (λ rule. stands.sound (of_groups rule) stands.geometry stands.said stands.tells))
 
-pub unheld : ((g : Geometry) (image : List Sector) → closed (rows_of g image) ≡ rows_of g image) → (image : List Sector) (t : Table) (c : ℕ) → Stands image t c → closed t ≡ t
+pub unheld : ((g : Geometry) (image : List Sector) → closed (rows_of g image) ≡ rows_of g image) → (image : List Sector) (t : Table) (c : ℕ) → Represents image t c → closed t ≡ t
 unheld none image t c stands = ap closed (sym stands.rows) ∙ none stands.geometry (groups_of stands.geometry image stands.said) ∙ stands.rows
 
-pub one_table : Lower → (image : List Sector) (t u : Table) (c d : ℕ) → Stands image t c → Stands image u d → (t ≡ u) × (c ≡ d)
+pub one_table : Lower → (image : List Sector) (t u : Table) (c d : ℕ) → Represents image t c → Represents image u d → (t ≡ u) × (c ≡ d)
 one_table lower image t u c d p q =
     let same : p.geometry ≡ q.geometry = one_geometry lower p.geometry q.geometry image p.tells.superblock q.tells.superblock in
     let here : Tells q.geometry image p.said = subst (λ (x : Geometry). Tells x image p.said) same p.tells in
@@ -74,11 +74,11 @@ pub record Encodings : Type 0 where
   pub rows : (g : Geometry) (t : Table) (layouts : Layouts) (image : List Sector) → CanEncode g t layouts image → rows_of g (encoded g t layouts image) ≡ closed t
 
 pub replays : Lower → Encodings → (g : Geometry) (t : Table) (layouts : Layouts) (base image : List Sector) (said : Log) → Tells g image said → CanEncode g t layouts base
-    → groups_of g image said ≡ encoded g t layouts base → Stands image (closed t) said.next
+    → groups_of g image said ≡ encoded g t layouts base → Represents image (closed t) said.next
 replays lower encodings g t layouts base image said tells can same =
     let sound : GroupsAreSound g (groups_of g image said) = subst (GroupsAreSound g) (sym same) (encodings.sound g t layouts base can) in
     let rows : rows_of g (groups_of g image said) ≡ closed t = ap (rows_of g) same ∙ encodings.rows g t layouts base can in
-    subst (λ (u : Table). Stands image u said.next) rows (made lower g image said tells sound)
+    subst (λ (u : Table). Represents image u said.next) rows (made lower g image said tells sound)
 
 -- an empty log
 pub unlogged : Lower → Encodings
@@ -87,7 +87,7 @@ pub unlogged : Lower → Encodings
     → ((sectors : List Sector) → overlaid sectors [] ≡ sectors)
     → (g : Geometry) (t : Table) (layouts : Layouts) (base image : List Sector) (position next : ℕ) → HasSuperblock g image → IsLongEnough g image
     → HasAnchor image (anchor_of g) g.ring position next → AreBelow (ring_of g image) position → CanEncode g t layouts base
-    → groups_part (anchor_of g) image ≡ encoded g t layouts base → Stands image (closed t) next
+    → groups_part (anchor_of g) image ≡ encoded g t layouts base → Represents image (closed t) next
 unlogged lower encodings empty none g t layouts base image position next has enough at below can same =
     let tells : Tells g image (empty_log position next) =
     record { superblock = has; log = empty image (anchor_of g) g.ring position next enough at below } in

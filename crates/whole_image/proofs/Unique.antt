@@ -6,7 +6,7 @@ use Rattle.life_bytes.specs.Fields.{field}
 use Rattle.life_bytes.specs.TableLaws.{sealed_number, AreRows}
 use Rattle.geometry.specs.declared.shape.Geometry.{Geometry}
 use Rattle.geometry.specs.Superblock.{SuperblocksTell}
-use Rattle.sound_image.specs.Stands.{HasSuperblock}
+use Rattle.sound_image.specs.Superblocks.{HasSuperblock}
 use Rattle.log_record.specs.declared.record.LogRecord.{LogRecord}
 use Rattle.log_record.specs.Whole.{IsWholeAt}
 use Rattle.log_image.specs.Anchor.{HasAnchor, anchor_rows, anchor_sector}

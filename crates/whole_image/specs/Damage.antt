@@ -7,13 +7,13 @@ use Rattle.sound_image.specs.Damage.{Rule}
 use Rattle.sound_image.specs.Damage.{number_of as number_in_groups}
 use Rattle.sound_image.specs.Damage.{Holds as HoldsInGroups}
 use Rattle.sound_image.specs.Damage.{Breaks as BreaksInGroups}
-use Rattle.sound_image.specs.Stands.{HasSuperblock, IsLongEnough}
+use Rattle.sound_image.specs.Superblocks.{HasSuperblock, IsLongEnough}
 use Rattle.log_image.specs.Anchor.{HasAnchor}
 use Rattle.log_image.specs.Log.{Log, IsLog, replayed}
 use Rattle.log_image.specs.Damage.{AnchorBreaks, LogBreaks}
 use Rattle.whole_image.specs.Front.{anchor_of, ring_of, IsSuperblockRight, IsAnchorRight, IsLogRight}
 
--- what the rules are about, in the order in which they are judged; those of the groups are eight
+-- what the rules are about, in the order in which they are checked; those of the groups are eight
 pub data ImageRule : Type 0 where
   superblock : ImageRule
   size : ImageRule

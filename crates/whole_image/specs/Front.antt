@@ -4,7 +4,7 @@ use Rattle.std.specs.Prelude.{◌*◌, ℕ, List}
 use Rattle.life_bytes.specs.declared.sector.Sector.{Sector}
 use Rattle.geometry.specs.declared.shape.Geometry.{Geometry}
 use Rattle.geometry.specs.Places.{group_sectors}
-use Rattle.sound_image.specs.Stands.{HasSuperblock}
+use Rattle.sound_image.specs.Superblocks.{HasSuperblock}
 use Rattle.log_image.specs.Anchor.{HasAnchor}
 use Rattle.log_image.specs.Log.{Log, HasLog, ring_part}
 

@@ -1,3 +1,3 @@
 pub mod Front
 pub mod Damage
-pub mod Stands
+pub mod Represents

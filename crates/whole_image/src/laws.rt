@@ -13,13 +13,13 @@ ghost use Rattle.sound_image.specs.Damage.{IsSound as GroupsAreSound};
 ghost use Rattle.sound_image.specs.Places.{bytes_at};
 ghost use Rattle.sound_image.specs.Reading.{rows_of};
 ghost use Rattle.sound_image.specs.Encoding.{Layouts, CanEncode, encoded};
-ghost use Rattle.sound_image.specs.Stands.{HasSuperblock, IsLongEnough};
+ghost use Rattle.sound_image.specs.Superblocks.{HasSuperblock, IsLongEnough};
 ghost use Rattle.log_image.specs.Anchor.{HasAnchor};
 ghost use Rattle.log_image.specs.Damage.{IsLogDamage};
 ghost use Rattle.log_image.specs.Log.{AreBelow, Log, groups_part};
 ghost use Rattle.whole_image.specs.Front.{anchor_of, ring_of};
 ghost use Rattle.whole_image.specs.Damage.{ImageRule, superblock, of_groups, number_of, FirstDamage, IsSound, Tells, groups_of};
-ghost use Rattle.whole_image.specs.Stands.{Stands};
+ghost use Rattle.whole_image.specs.Represents.{Represents};
 
 use geometry::superblocks_tell_geometries;
 use log_image::{logs, overlays};
@@ -47,22 +47,22 @@ pub fn blank_images_are_damaged()
     ensures { (image : List Sector) → bytes_at image 0 ≡ zero_sector.bytes → FirstDamage image superblock 0 }
 {}
 
-/// A law: an image stands for one table, with one next commit number.
-pub fn images_stand_for_one_table()
-    ensures { (image : List Sector) (t u : Table) (c d : ℕ) → Stands image t c → Stands image u d → (t ≡ u) × (c ≡ d) }
+/// A law: an image represents one table, with one next commit number.
+pub fn images_represent_one_table()
+    ensures { (image : List Sector) (t u : Table) (c d : ℕ) → Represents image t c → Represents image u d → (t ≡ u) × (c ≡ d) }
 {
     superblocks_tell_geometries();
     logs();
     whole_records();
 }
 
-/// A law: a sound image stands for some table. It is the one that its replayed groups have; it is well formed, and nobody holds an inode of it.
-pub fn sound_images_stand()
-    ensures stand { (image : List Sector) → IsSound image → (t : Table) × (c : ℕ) × Stands image t c }
+/// A law: a sound image represents some table. It is the one that its replayed groups have; it is well formed, and nobody holds an inode of it.
+pub fn sound_images_represent_a_table()
+    ensures represents { (image : List Sector) → IsSound image → (t : Table) × (c : ℕ) × Represents image t c }
     ensures made { (g : Geometry) (image : List Sector) (said : Log) → Tells g image said → GroupsAreSound g (groups_of g image said)
-        → Stands image (rows_of g (groups_of g image said)) said.next }
-    ensures well_formed { (image : List Sector) (t : Table) (c : ℕ) → Stands image t c → IsTable t }
-    ensures no_opens { (image : List Sector) (t : Table) (c : ℕ) → Stands image t c → closed t ≡ t }
+        → Represents image (rows_of g (groups_of g image said)) said.next }
+    ensures well_formed { (image : List Sector) (t : Table) (c : ℕ) → Represents image t c → IsTable t }
+    ensures no_opens { (image : List Sector) (t : Table) (c : ℕ) → Represents image t c → closed t ≡ t }
 {
     superblocks_tell_geometries();
     logs();
@@ -70,14 +70,14 @@ pub fn sound_images_stand()
     sound_tables_are_well_formed();
 }
 
-/// A law: an image whose superblock, anchor and log are right, and whose replayed groups encode a table, stands for it, with nobody holding an inode. So does
+/// A law: an image whose superblock, anchor and log are right, and whose replayed groups encode a table, represents it, with nobody holding an inode. So does
 /// one without records, whose groups encode the table as they are.
-pub fn encoded_images_stand()
+pub fn encoded_images_represent_their_table()
     ensures replayed { (g : Geometry) (t : Table) (layouts : Layouts) (base image : List Sector) (said : Log) → Tells g image said → CanEncode g t layouts base
-        → groups_of g image said ≡ encoded g t layouts base → Stands image (closed t) said.next }
+        → groups_of g image said ≡ encoded g t layouts base → Represents image (closed t) said.next }
     ensures empty { (g : Geometry) (t : Table) (layouts : Layouts) (base image : List Sector) (position next : ℕ) → HasSuperblock g image → IsLongEnough g image
         → HasAnchor image (anchor_of g) g.ring position next → AreBelow (ring_of g image) position → CanEncode g t layouts base
-        → groups_part (anchor_of g) image ≡ encoded g t layouts base → Stands image (closed t) next }
+        → groups_part (anchor_of g) image ≡ encoded g t layouts base → Represents image (closed t) next }
 {
     superblocks_tell_geometries();
     logs();

@@ -2,7 +2,7 @@ use Rattle.std.proofs.Common.{◌≡◌, ℕ, List, subst, arith}
 use Rattle.life_bytes.specs.declared.sector.Sector.{Sector}
 use Rattle.image_rules.specs.Counted.{AreCounted, IsCounted}
 use Rattle.image_rules.proofs.Totals.{counted_none, counted_more, whole_tables}
-use Rattle.image_rules.specs.Faults.{IsJudged}
+use Rattle.image_rules.specs.Faults.{IsChecked}
 use Rattle.image_rules.proofs.all_groups.check_groups.Goals as goal
 
 pub loop-group-preserved : goal.loop-group-preserved
@@ -10,11 +10,11 @@ loop-group-preserved g c =
     let a = c.args in
     let l = c.loop-group in
     record {
-      read = g.met.V.View.both_read a.view.now l.view c.judge.new.view l.invariant.read c.judge.ensures.only_read;
-      judged = λ known.
+      read = g.met.V.View.both_read a.view.now l.view c.check_one.new.view l.invariant.read c.check_one.ensures.only_read;
+      checked = λ known.
           let stays = g.met.V.View.image_stays a.view.now l.view l.invariant.read in
-          c.first_of-first.ensures.judged a.g.now (g.V.View.image a.view.now) l.group (l.invariant.judged known)
-          (subst (λ (image : List Sector). IsJudged a.g.now image l.group c.in_ok-found.found.damage) stays (c.in_ok-found.ensures.judged known));
+          c.first_of-first.ensures.checked a.g.now (g.V.View.image a.view.now) l.group (l.invariant.checked known)
+          (subst (λ (image : List Sector). IsChecked a.g.now image l.group c.in_ok-found.found.damage) stays (c.in_ok-found.ensures.checked known));
       counted = λ known none.
           let stays = g.met.V.View.image_stays a.view.now l.view l.invariant.read in
           let both = c.first_of-first.ensures.none none in
@@ -26,7 +26,7 @@ loop-group-preserved g c =
 pub loop-group-init : goal.loop-group-init
 loop-group-init g c = record {
   read = g.met.V.View.no_read c.args.view.now;
-  judged = λ known group lt. absurd (omega arith);
+  checked = λ known group lt. absurd (omega arith);
   counted = λ known none. counted_none c.args.g.now (g.V.View.image c.args.view.now);
 }
 

@@ -24,7 +24,7 @@ returns-in-Ok-attach-clause-log g c =
     logged_on g.I.Disk.Disk.sector_count g.I.Disk.Disk.known (g.I.Disk.Disk.cells c.in-Ok-attach.disk) (g.I.Images.image_at c.args.images.now c.args.path.now)
     c.in-Ok-attach.ensures.image c.run_over.result.disk c.run_over.result.mounts.items c.run_over.ensures.log
 
-pub returns-in-Ok-attach-clause-wherever : goal.returns-in-Ok-attach-clause-wherever
-returns-in-Ok-attach-clause-wherever g c =
+pub returns-in-Ok-attach-clause-crash_safe : goal.returns-in-Ok-attach-clause-crash_safe
+returns-in-Ok-attach-clause-crash_safe g c =
     left_at g.I.Disk.Disk.known (g.I.Disk.Disk.cells c.in-Ok-attach.disk) (g.I.Images.image_at c.args.images.now c.args.path.now)
-    c.in-Ok-attach.ensures.image c.in-Ok-attach.ensures.one_image g.I.Disk.Disk.cells c.run_over.result.disk c.run_over.result.mounts.items c.run_over.ensures.wherever
+    c.in-Ok-attach.ensures.image c.in-Ok-attach.ensures.one_image g.I.Disk.Disk.cells c.run_over.result.disk c.run_over.result.mounts.items c.run_over.ensures.crash_safe

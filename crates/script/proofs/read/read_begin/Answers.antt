@@ -1,6 +1,6 @@
 use Rattle.std.proofs.Common.{ap, ◌∷◌, ◌∙◌, List, ℕ, codes}
 use Rattle.script.specs.Meaning.{spoken_words}
-use Rattle.script.proofs.Judged.{begin_right, call_written}
+use Rattle.script.proofs.Checked.{begin_right, call_written}
 use Rattle.script.proofs.read.read_begin.Goals as goal
 
 pub returns : goal.returns

@@ -1,7 +1,7 @@
 use Rattle.std.proofs.Common.{List, ℕ, subst, sym, ◌∙◌}
 use Rattle.script.specs.Rules.{outline}
 use Rattle.script.specs.Reading.{ReadsAs}
-use Rattle.script.proofs.Judged.{line_read}
+use Rattle.script.proofs.Checked.{line_read}
 use Rattle.script.proofs.read.read_line.Goals as goal
 
 pub returns : goal.returns

@@ -1,5 +1,5 @@
 use Rattle.std.proofs.Common.{ap, inr, ◌∷◌, ◌∙◌, List, ℕ, refl, lit<}
-use Rattle.script.proofs.Judged.{plain_control, plain_right, call_written}
+use Rattle.script.proofs.Checked.{plain_control, plain_right, call_written}
 use Rattle.script.proofs.read.read_plain.Goals as goal
 
 pub returns-in_ok-spoken-in-Some : goal.returns-in_ok-spoken-in-Some

@@ -1,6 +1,6 @@
 use Rattle.std.proofs.Common.{ap, inl, ◌∷◌, ◌∙◌, List, ℕ}
 use Rattle.script.specs.Words.{letter_of}
-use Rattle.script.proofs.Judged.{call_right, call_written}
+use Rattle.script.proofs.Checked.{call_right, call_written}
 use Rattle.script.proofs.read.read_whole.Goals as goal
 
 pub returns : goal.returns

@@ -1,6 +1,6 @@
 use Rattle.sound_image.proofs.Ready.{Lower}
 use Rattle.sound_image.proofs.Rows.{rows_are}
-use Rattle.sound_image.proofs.Whole.{sound, stands}
+use Rattle.sound_image.proofs.Whole.{sound}
 use Rattle.sound_image.proofs.laws.encoded_images_are_sound.Goals as goal
 
 -- the laws below, as they were called
@@ -18,6 +18,3 @@ returns-clause-sound c = sound (lower c)
 
 pub returns-clause-rows : goal.returns-clause-rows
 returns-clause-rows c = rows_are (lower c)
-
-pub returns-clause-stands : goal.returns-clause-stands
-returns-clause-stands c = stands (lower c)

@@ -1,5 +1,5 @@
 use Rattle.std.proofs.Common.{List, None, refl, ◌∙◌, sym, subst, take, length}
-use Rattle.thin_run.specs.Wherever.{IsLeft}
+use Rattle.thin_run.specs.CrashSafe.{IsLeft}
 use Rattle.thin_run.proofs.Beginnings.{IsLeft-held}
 use Rattle.std.specs.List.{AllByRecursion}
 use Rattle.disk_model.specs.Disk.{as_read}
@@ -37,14 +37,14 @@ returns-clause-caused g c =
     IsWalk-caused (take (length run.said.items) c.args.commands.now) (g.D.Disk.fault_count c.args.disk) walk.1.0 (g.D.Disk.fault_count c.run_lines-run.new.disk)
     run walk.0 c.stories.new.mounts.items c.stories.ensures walk.1.1 walk.1.2
 
-pub returns-then-is_err-clause-wherever : goal.returns-then-is_err-clause-wherever
-returns-then-is_err-clause-wherever g c known one =
+pub returns-then-is_err-clause-crash_safe : goal.returns-then-is_err-clause-crash_safe
+returns-then-is_err-clause-crash_safe g c known one =
     let cells = g.D.Disk.cells c.args.disk in
     subst (λ (mounts : List MountRecord). IsLeft (as_read cells) mounts cells) (sym (c.reserve.ensures.items ∙ c.new-mounts.ensures.items))
     (IsLeft-held (as_read cells) None cells (one, refl))
 
-pub returns-clause-wherever : goal.returns-clause-wherever
-returns-clause-wherever g c known one =
+pub returns-clause-crash_safe : goal.returns-clause-crash_safe
+returns-clause-crash_safe g c known one =
     let image = as_read (g.D.Disk.cells c.args.disk) in
     let run = c.run_lines-run.result.0 in
     let after = g.D.Disk.cells c.run_lines-run.new.disk in

@@ -2,12 +2,12 @@ use Rattle.std.proofs.Common.{◌<◌, ◌^◌, sym, ap, subst, ◌∙◌, arith
 use Rattle.std.specs.List.{find}
 use Rattle.inobt_leaf.specs.declared.chunk.ChunkRec.{ChunkRec}
 use Rattle.inobt_leaf.specs.Chunks.{holds, IsLeaf, with_chunk}
-use Rattle.inobt_leaf.proofs.Changes.{Stands, stands, insert-with_chunk, IsLeaf-insert}
+use Rattle.inobt_leaf.proofs.Changes.{Represents, stands, insert-with_chunk, IsLeaf-insert}
 use Rattle.inobt_leaf.proofs.leaf.Leaf.add.Goals as goal
 
-place : (c : goal.In_ok-insert) → Stands c.self.inside.chunks.items c.args.start c.count_up_to-place.result
+place : (c : goal.In_ok-insert) → Represents c.self.inside.chunks.items c.args.start c.count_up_to-place.result
 place c =
-    let Is : List ChunkRec → Type 0 = λ chunks. Stands chunks c.args.start c.count_up_to-place.result in
+    let Is : List ChunkRec → Type 0 = λ chunks. Represents chunks c.args.start c.count_up_to-place.result in
     let e = c.as_slice.ensures.value in
     subst Is e
     (stands c.as_slice.result.now c.args.start c.count_up_to-place.result

@@ -1,6 +1,6 @@
 use Rattle.whole_image.proofs.Unique.{Lower}
 use Rattle.whole_image.proofs.Standing.{Encodings, replays, unlogged}
-use Rattle.whole_image.proofs.laws.encoded_images_stand.Goals as goal
+use Rattle.whole_image.proofs.laws.encoded_images_represent_their_table.Goals as goal
 
 lower : goal.After-encoded_images_are_sound → Lower
 lower c = record { tell = c.superblocks_tell_geometries.ensures; one_log = c.logs.ensures.one; one_record = c.whole_records.ensures.one }

@@ -1,4 +1,4 @@
--- When an image stands for a table.
+-- When an image represents a table.
 use Rattle.std.specs.Prelude.{◌≡◌, ℕ, List}
 use Rattle.life_bytes.specs.declared.sector.Sector.{Sector}
 use Rattle.geometry.specs.declared.shape.Geometry.{Geometry}
@@ -9,7 +9,7 @@ use Rattle.whole_image.specs.Damage.{IsSound, Tells, groups_of}
 
 -- The image is sound. Its replayed groups have the table's rows, chunks and generations, and its superblock the table's version, groups and blocks; its
 -- next commit number is c.
-pub record Stands (image : List Sector) (t : Table) (c : ℕ) : Type 0 where
+pub record Represents (image : List Sector) (t : Table) (c : ℕ) : Type 0 where
   pub sound : IsSound image
   pub geometry : Geometry
   pub said : Log
