@@ -7,7 +7,7 @@ use Rattle.std.proofs.lemmas.Grind.{flat_map-append}
 use Rattle.byteorder.specs.Endian.{big_bytes}
 use Rattle.life_bytes.specs.Fields.{with_field, with_piece}
 use Rattle.life_bytes.specs.Pieces.{zeros}
-use Rattle.life_bytes.specs.TableLaws.{put_behind, zeros_is}
+use Rattle.life_bytes.specs.TableLaws.{put_at_end, zeros_is}
 
 abbrev pub bytes_of : List ℕ → List ℕ
 bytes_of heads = flat_map (big_bytes 4) heads
@@ -37,7 +37,7 @@ more_bytes heads i d bytes new low many so_far put =
     let one : bytes_of (head ∷ []) ≡ big_bytes 4 head = bytes_of-cons head [] ∙ append-nil (big_bytes 4 head) in
     let longer : bytes_of (take (i + 1) heads) ≡ front ++ big_bytes 4 head =
     ap bytes_of (take_more heads i d lt) ∙ flat_map-append (big_bytes 4) (take i heads) (head ∷ []) ∙ ap (λ (l : List ℕ). front ++ l) one in
-    put ∙ ap (with_field 4 (4 * i) head) so_far ∙ put_behind front (big_bytes 4 head) 4 (4 * i) (256 - 4 * i) long (omega arith)
+    put ∙ ap (with_field 4 (4 * i) head) so_far ∙ put_at_end front (big_bytes 4 head) 4 (4 * i) (256 - 4 * i) long (omega arith)
     ∙ ap (λ (m : ℕ). (front ++ big_bytes 4 head) ++ zeros m) less ∙ ap (λ (l : List ℕ). l ++ zeros (256 - 4 * (i + 1))) (sym longer)
 
 no_zeros : zeros 0 ≡ []

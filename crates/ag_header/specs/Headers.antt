@@ -3,7 +3,7 @@ use Rattle.std.specs.Prelude.{◌≡◌, ◌≤◌, ◌<◌, ◌^◌, ℕ, List,
 use Rattle.std.specs.List.{flat_map}
 use Rattle.byteorder.specs.Endian.{big_bytes}
 use Rattle.life_limits.specs.declared.TheConstants.{FIRST_PAGE_BLOCK, LAST_PAGE_BLOCK, MAX_LEVEL, NO_INODE}
-use Rattle.life_bytes.specs.Pieces.{Row, number, piece, placed, blank, sealed}
+use Rattle.life_bytes.specs.Pieces.{Field, number, piece, placed, blank, sealed}
 use Rattle.ag_header.specs.declared.agi.Agi.{Agi}
 
 -- the root page is a block of pages, and the level is one that trees have
@@ -11,8 +11,8 @@ pub record IsAgi (agi : Agi) : Type 0 where
   pub root : (FIRST_PAGE_BLOCK ≤ agi.root) × (agi.root ≤ LAST_PAGE_BLOCK)
   pub level : (1 ≤ agi.level) × (agi.level ≤ MAX_LEVEL)
 
--- the fields have their widths
-pub record Fits (agi : Agi) : Type 0 where
+-- the header_fields have their widths
+pub record FieldsFit (agi : Agi) : Type 0 where
   pub group : agi.group < 2 ^ 32
   pub blocks : agi.blocks < 2 ^ 32
   pub count : agi.count < 2 ^ 32
@@ -21,8 +21,8 @@ pub record Fits (agi : Agi) : Type 0 where
   pub each_head : (k : ℕ) → get_or agi.heads k 0 < 2 ^ 32
   pub uuid : length agi.uuid ≡ 16
 
-abbrev pub fields : Agi → List Row
-fields agi =
+abbrev pub header_fields : Agi → List Field
+header_fields agi =
     number 0 4 0x5841_4749
     ∷ number 4 4 1
     ∷ number 8 4 agi.group
@@ -38,18 +38,18 @@ fields agi =
     ∷ []
 
 -- the sector that encodes a header, with the checksum at byte 312
-unfoldable pub encoding : Agi → List ℕ
-encoding agi = sealed 312 (placed (fields agi) blank)
+unfoldable pub header_encoding : Agi → List ℕ
+header_encoding agi = sealed 312 (placed (header_fields agi) blank)
 
 -- the sector encodes the header
-pub record Encodes (bytes : List ℕ) (agi : Agi) : Type 0 where
+pub record EncodesHeader (bytes : List ℕ) (agi : Agi) : Type 0 where
   pub allowed : IsAgi agi
-  pub fits : Fits agi
-  pub sector : bytes ≡ encoding agi
+  pub fits : FieldsFit agi
+  pub sector : bytes ≡ header_encoding agi
 
 -- the sector reads as some header
-abbrev pub IsHeader : List ℕ → Type 0
-IsHeader bytes = (agi : Agi) × Encodes bytes agi
+abbrev pub IsGroupHeader : List ℕ → Type 0
+IsGroupHeader bytes = (agi : Agi) × EncodesHeader bytes agi
 
 -- the header with another head of one bucket, with other counts, with another root
 abbrev pub with_head : Agi → ℕ → ℕ → Agi

@@ -3,7 +3,7 @@ use Rattle.std.specs.Prelude.{◌≡◌, ◌+◌, ◌*◌, ℕ, List, length, ma
 use Rattle.std.specs.List.{range_with_len}
 use Rattle.life_bytes.specs.Fields.{field}
 use Rattle.ag_header.specs.declared.agi.Agi.{Agi}
-use Rattle.ag_header.specs.Headers.{IsAgi, Fits, Encodes, encoding}
+use Rattle.ag_header.specs.Headers.{IsAgi, FieldsFit, EncodesHeader, header_encoding}
 
 -- the header that the fields give, whatever else the sector holds
 abbrev pub agi_in : List ℕ → Agi
@@ -18,8 +18,8 @@ agi_in bytes = record {
   uuid = take 16 (drop 296 bytes);
 }
 
--- What is encoded is read, so no sector encodes two headers; and a header's encoding is a sector that encodes it.
+-- What is encoded is read, so no sector encodes two headers; and a header's header_encoding is a sector that encodes it.
 pub record HeadersAreRead : Type 0 where
-  pub read : (bytes : List ℕ) (agi : Agi) → Encodes bytes agi → agi_in bytes ≡ agi
-  pub encoded : (agi : Agi) → IsAgi agi → Fits agi → Encodes (encoding agi) agi
-  pub long : (agi : Agi) → IsAgi agi → Fits agi → length (encoding agi) ≡ 512
+  pub read : (bytes : List ℕ) (agi : Agi) → EncodesHeader bytes agi → agi_in bytes ≡ agi
+  pub encoded : (agi : Agi) → IsAgi agi → FieldsFit agi → EncodesHeader (header_encoding agi) agi
+  pub long : (agi : Agi) → IsAgi agi → FieldsFit agi → length (header_encoding agi) ≡ 512

@@ -3,7 +3,7 @@
 ghost use Rattle.std.specs.Prelude.{◌≡◌, ◌+◌, ◌*◌, ◌<◌, ◌↔◌, ℕ, IsTrue, IfSome, length, take, drop, get_or};
 ghost use Rattle.life_bytes.specs.Fields.{field};
 ghost use Rattle.ag_header.specs.declared.agi.Agi.{Agi};
-ghost use Rattle.ag_header.specs.Headers.{IsAgi, Encodes};
+ghost use Rattle.ag_header.specs.Headers.{IsAgi, EncodesHeader};
 
 use crate::agi::Agi;
 use crate::heads::heads_in;
@@ -49,7 +49,7 @@ fn is_agi(agi: &Agi) -> bool
 
 /// Whether the sector encodes this header, byte by byte.
 fn is_encoded(agi: &Agi, sector: &Sector) -> bool
-    ensures { IsTrue result ↔ Encodes sector.now.bytes agi.now }
+    ensures { IsTrue result ↔ EncodesHeader sector.now.bytes agi.now }
 {
     if !is_agi(agi) {
         return false;
@@ -61,8 +61,8 @@ fn is_encoded(agi: &Agi, sector: &Sector) -> bool
 
 /// Reads a group's header. None where the sector is no encoding of one, by any of its bytes.
 pub fn read_agi(sector: &Sector) -> Option<Agi>
-    ensures found { IfSome result (Encodes sector.now.bytes) }
-    ensures only { (agi : Agi) → Encodes sector.now.bytes agi → result ≡ Some agi }
+    ensures found { IfSome result (EncodesHeader sector.now.bytes) }
+    ensures only { (agi : Agi) → EncodesHeader sector.now.bytes agi → result ≡ Some agi }
 {
     let agi = fields_of(sector);
     if is_encoded(&agi, sector) {

@@ -3,17 +3,17 @@
 ghost use Rattle.std.specs.Prelude.{◌≤◌, ◌<◌};
 ghost use Rattle.life_limits.specs.declared.TheConstants.{BUCKETS, FIRST_PAGE_BLOCK, LAST_PAGE_BLOCK, MAX_LEVEL};
 ghost use Rattle.ag_header.specs.declared.agi.Agi.{Agi};
-ghost use Rattle.ag_header.specs.Headers.{IsHeader, Encodes, with_head, with_counts, with_root};
+ghost use Rattle.ag_header.specs.Headers.{IsGroupHeader, EncodesHeader, with_head, with_counts, with_root};
 
 use life_bytes::{Sector, put_crc, put_u32};
 use life_limits::{BUCKETS, FIRST_PAGE_BLOCK, LAST_PAGE_BLOCK, MAX_LEVEL};
 
 /// Sets the head of an unlinked bucket.
 pub fn set_head(sector: &mut Sector, bucket: u32, agino: u32)
-    requires header { IsHeader sector.old.bytes }
+    requires header { IsGroupHeader sector.old.bytes }
     requires bucket_small { bucket < BUCKETS }
-    ensures header { IsHeader sector.new.bytes }
-    ensures set { (agi : Agi) → Encodes sector.old.bytes agi → Encodes sector.new.bytes (with_head agi bucket agino) }
+    ensures header { IsGroupHeader sector.new.bytes }
+    ensures set { (agi : Agi) → EncodesHeader sector.old.bytes agi → EncodesHeader sector.new.bytes (with_head agi bucket agino) }
 {
     put_u32(&mut sector.bytes, 40 + 4 * bucket as usize, agino);
     put_crc(&mut sector.bytes, 312);
@@ -21,9 +21,9 @@ pub fn set_head(sector: &mut Sector, bucket: u32, agino: u32)
 
 /// Sets the number of inodes and of free ones.
 pub fn set_counts(sector: &mut Sector, count: u32, free: u32)
-    requires { IsHeader sector.old.bytes }
-    ensures header { IsHeader sector.new.bytes }
-    ensures set { (agi : Agi) → Encodes sector.old.bytes agi → Encodes sector.new.bytes (with_counts agi count free) }
+    requires { IsGroupHeader sector.old.bytes }
+    ensures header { IsGroupHeader sector.new.bytes }
+    ensures set { (agi : Agi) → EncodesHeader sector.old.bytes agi → EncodesHeader sector.new.bytes (with_counts agi count free) }
 {
     put_u32(&mut sector.bytes, 16, count);
     put_u32(&mut sector.bytes, 28, free);
@@ -32,13 +32,13 @@ pub fn set_counts(sector: &mut Sector, count: u32, free: u32)
 
 /// Sets the root of the inode btree and its level.
 pub fn set_root(sector: &mut Sector, root: u32, level: u32)
-    requires header { IsHeader sector.old.bytes }
+    requires header { IsGroupHeader sector.old.bytes }
     requires root_low { FIRST_PAGE_BLOCK ≤ root }
     requires root_high { root ≤ LAST_PAGE_BLOCK }
     requires level_low { 1 ≤ level }
     requires level_high { level ≤ MAX_LEVEL }
-    ensures header { IsHeader sector.new.bytes }
-    ensures set { (agi : Agi) → Encodes sector.old.bytes agi → Encodes sector.new.bytes (with_root agi root level) }
+    ensures header { IsGroupHeader sector.new.bytes }
+    ensures set { (agi : Agi) → EncodesHeader sector.old.bytes agi → EncodesHeader sector.new.bytes (with_root agi root level) }
 {
     put_u32(&mut sector.bytes, 20, root);
     put_u32(&mut sector.bytes, 24, level);

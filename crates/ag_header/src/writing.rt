@@ -2,7 +2,7 @@
 
 ghost use Rattle.std.specs.Prelude.{◌≡◌};
 ghost use Rattle.life_bytes.specs.Pieces.{placed, blank};
-ghost use Rattle.ag_header.specs.Headers.{Fits, IsAgi, Encodes, fields};
+ghost use Rattle.ag_header.specs.Headers.{FieldsFit, IsAgi, EncodesHeader, header_fields};
 
 use crate::agi::Agi;
 use crate::heads::bytes_of;
@@ -15,8 +15,8 @@ const VERSION: u32 = 1;
 
 /// A sector of zeros but for the header's fields.
 fn with_fields(agi: &Agi) -> Sector
-    ensures bytes { result.bytes ≡ placed (fields agi.now) blank }
-    ensures fits { Fits agi.now }
+    ensures bytes { result.bytes ≡ placed (header_fields agi.now) blank }
+    ensures fits { FieldsFit agi.now }
 {
     let group = agi.group;
     let blocks = agi.blocks;
@@ -42,7 +42,7 @@ fn with_fields(agi: &Agi) -> Sector
 /// Writes the whole sector.
 pub fn write_agi(agi: &Agi, into: &mut Sector)
     requires { IsAgi agi.now }
-    ensures { Encodes into.new.bytes agi.now }
+    ensures { EncodesHeader into.new.bytes agi.now }
 {
     let mut new = with_fields(agi);
     put_crc(&mut new.bytes, 312);

@@ -4,8 +4,8 @@ use Rattle.std.specs.List.{AllByRecursion}
 use Rattle.std.proofs.lemmas.Bool.{cases_eq, eq-eqb, ne_eqb}
 use Rattle.std.proofs.lemmas.List.{get_or-replicate, length-replicate}
 use Rattle.life_limits.specs.declared.TheConstants.{BUCKETS, NO_INODE}
-use Rattle.agi_buckets.specs.Buckets.{Pointers, IsChain, IsBucket, AreBuckets, IsPointer, IsBefore, SetsHead, SetsNext, Puts, Removes, list_of, own_list, bucket_of, take_out, without}
-use Rattle.agi_buckets.specs.Walks.{IsFound, PassesOver}
+use Rattle.agi_buckets.specs.Buckets.{Pointers, IsChain, IsBucket, AreBuckets, IsPointer, IsBefore, SetsHead, SetsNext, Puts, Removes, list_at, own_list, bucket_of, take_out, without}
+use Rattle.agi_buckets.specs.Walks.{PointsAtMember, PassesOver}
 use Rattle.agi_buckets.proofs.Lists.{all_of, all_from, moved, moved_to}
 use Rattle.agi_buckets.proofs.Chains.{NoMark, chain_moved, one_chain, chain_kept, first_listed, next_listed, none_before_first, one_before, behind}
 use Rattle.agi_buckets.proofs.Relinked.{past, relinked, not_own_next, without_at, without_other}
@@ -16,33 +16,33 @@ bucket_small agino = omega arith
 pub unmarked : (places xs : List ℕ) (M : ℕ) → (Contains places M → ⊥) → AllByRecursion (Contains places) xs → NoMark M xs
 unmarked places xs M none placed = all_from (λ (x : ℕ). x ≢ M) xs (λ x member same. none (moved_to places M x (sym same) (all_of (Contains places) xs x placed member)))
 
-pub no_mark_in : (p : Pointers) (lists : List (List ℕ)) (bucket : ℕ) → AreBuckets p lists → bucket < BUCKETS → NoMark NO_INODE (list_of lists bucket)
-no_mark_in p lists bucket are small = unmarked p.places (list_of lists bucket) NO_INODE are.no_mark (are.each bucket small).placed
+pub no_mark_in : (p : Pointers) (lists : List (List ℕ)) (bucket : ℕ) → AreBuckets p lists → bucket < BUCKETS → NoMark NO_INODE (list_at lists bucket)
+no_mark_in p lists bucket are small = unmarked p.places (list_at lists bucket) NO_INODE are.no_mark (are.each bucket small).placed
 
 -- the pointers give one list for each bucket
-pub one_list : (p : Pointers) (xs ys : List (List ℕ)) (bucket : ℕ) → AreBuckets p xs → AreBuckets p ys → bucket < BUCKETS → list_of xs bucket ≡ list_of ys bucket
+pub one_list : (p : Pointers) (xs ys : List (List ℕ)) (bucket : ℕ) → AreBuckets p xs → AreBuckets p ys → bucket < BUCKETS → list_at xs bucket ≡ list_at ys bucket
 one_list p xs ys bucket x y small =
-    one_chain p.next (slice_index p.heads bucket) NO_INODE (list_of xs bucket) (list_of ys bucket) (no_mark_in p xs bucket x small) (no_mark_in p ys bucket y small) (x.each bucket small).chain (y.each bucket small).chain
+    one_chain p.next (slice_index p.heads bucket) NO_INODE (list_at xs bucket) (list_at ys bucket) (no_mark_in p xs bucket x small) (no_mark_in p ys bucket y small) (x.each bucket small).chain (y.each bucket small).chain
 
 -- a head is an inode with a place, or the mark
 pub head_is_pointer : (p : Pointers) (lists : List (List ℕ)) (bucket : ℕ) → AreBuckets p lists → bucket < BUCKETS → IsPointer p (slice_index p.heads bucket)
 head_is_pointer p lists bucket are small =
     let own = are.each bucket small in
-    elim (first_listed p.next (slice_index p.heads bucket) NO_INODE (list_of lists bucket) own.chain) [
-      | inl listed ↦ inl (all_of (Contains p.places) (list_of lists bucket) (slice_index p.heads bucket) own.placed listed)
+    elim (first_listed p.next (slice_index p.heads bucket) NO_INODE (list_at lists bucket) own.chain) [
+      | inl listed ↦ inl (all_of (Contains p.places) (list_at lists bucket) (slice_index p.heads bucket) own.placed listed)
       | inr mark ↦ inr mark
     ]
 
-pub placed_in : (p : Pointers) (lists : List (List ℕ)) (bucket x : ℕ) → AreBuckets p lists → bucket < BUCKETS → Contains (list_of lists bucket) x → Contains p.places x
-placed_in p lists bucket x are small member = all_of (Contains p.places) (list_of lists bucket) x (are.each bucket small).placed member
+pub placed_in : (p : Pointers) (lists : List (List ℕ)) (bucket x : ℕ) → AreBuckets p lists → bucket < BUCKETS → Contains (list_at lists bucket) x → Contains p.places x
+placed_in p lists bucket x are small member = all_of (Contains p.places) (list_at lists bucket) x (are.each bucket small).placed member
 
-pub bucket_in : (p : Pointers) (lists : List (List ℕ)) (bucket x : ℕ) → AreBuckets p lists → bucket < BUCKETS → Contains (list_of lists bucket) x → bucket_of x ≡ bucket
-bucket_in p lists bucket x are small member = all_of (λ (y : ℕ). bucket_of y ≡ bucket) (list_of lists bucket) x (are.each bucket small).own member
+pub bucket_in : (p : Pointers) (lists : List (List ℕ)) (bucket x : ℕ) → AreBuckets p lists → bucket < BUCKETS → Contains (list_at lists bucket) x → bucket_of x ≡ bucket
+bucket_in p lists bucket x are small member = all_of (λ (y : ℕ). bucket_of y ≡ bucket) (list_at lists bucket) x (are.each bucket small).own member
 
 -- so is a member's next pointer
-pub next_is_pointer : (p : Pointers) (lists : List (List ℕ)) (bucket x : ℕ) → AreBuckets p lists → bucket < BUCKETS → Contains (list_of lists bucket) x → IsPointer p (p.next x)
+pub next_is_pointer : (p : Pointers) (lists : List (List ℕ)) (bucket x : ℕ) → AreBuckets p lists → bucket < BUCKETS → Contains (list_at lists bucket) x → IsPointer p (p.next x)
 next_is_pointer p lists bucket x are small member =
-    elim (next_listed p.next (slice_index p.heads bucket) NO_INODE (list_of lists bucket) x (are.each bucket small).chain member) [
+    elim (next_listed p.next (slice_index p.heads bucket) NO_INODE (list_at lists bucket) x (are.each bucket small).chain member) [
       | inl listed ↦ inl (placed_in p lists bucket (p.next x) are small listed)
       | inr mark ↦ inr mark
     ]
@@ -60,19 +60,19 @@ bucket_kept p q bucket members places head nexts is = record {
 pub bucket_changed : (p q : Pointers) (lists : List (List ℕ)) (b : ℕ) (members : List ℕ) → AreBuckets p lists → b < BUCKETS → length q.heads ≡ BUCKETS → q.places ≡ p.places
     → IsBucket q b members
     → ((bucket : ℕ) → bucket < BUCKETS → bucket ≢ b → slice_index q.heads bucket ≡ slice_index p.heads bucket)
-    → ((bucket x : ℕ) → bucket < BUCKETS → bucket ≢ b → Contains (list_of lists bucket) x → q.next x ≡ p.next x)
+    → ((bucket x : ℕ) → bucket < BUCKETS → bucket ≢ b → Contains (list_at lists bucket) x → q.next x ≡ p.next x)
     → AreBuckets q (slice_set lists b members)
 bucket_changed p q lists b members are small size places is heads nexts = record {
   heads = size;
   count = length-set lists b members ∙ are.count;
   each = λ bucket below. elim (cases_eq bucket b) [
     | inl same ↦
-        let there : list_of (slice_set lists b members) bucket ≡ members = ap (list_of (slice_set lists b members)) same ∙ get_or-set_same lists b members [] (omega (arith, are.count)) in
+        let there : list_at (slice_set lists b members) bucket ≡ members = ap (list_at (slice_set lists b members)) same ∙ get_or-set_same lists b members [] (omega (arith, are.count)) in
         subst (λ (ys : List ℕ). IsBucket q bucket ys) (sym there) (subst (λ (k : ℕ). IsBucket q k members) (sym same) is)
     | inr other ↦
-        let there : list_of (slice_set lists b members) bucket ≡ list_of lists bucket = get_or-set_other lists b bucket members [] other in
+        let there : list_at (slice_set lists b members) bucket ≡ list_at lists bucket = get_or-set_other lists b bucket members [] other in
         subst (λ (ys : List ℕ). IsBucket q bucket ys) (sym there)
-        (bucket_kept p q bucket (list_of lists bucket) places (heads bucket below other) (λ x. nexts bucket x below other) (are.each bucket below))
+        (bucket_kept p q bucket (list_at lists bucket) places (heads bucket below other) (λ x. nexts bucket x below other) (are.each bucket below))
   ];
   no_mark = subst (λ (zs : List ℕ). Contains zs NO_INODE → ⊥) (sym places) are.no_mark;
 }
@@ -189,7 +189,7 @@ passes_by_head p q agino lists are first set =
     }
 
 pub passes_by_next : (p q : Pointers) (agino found : ℕ) (lists : List (List ℕ)) → AreBuckets p lists → (slice_index p.heads (bucket_of agino) ≡ agino → ⊥)
-    → IsFound p (slice_index p.heads (bucket_of agino)) agino found → SetsNext p q found (p.next agino) → PassesOver p q agino lists
+    → PointsAtMember p (slice_index p.heads (bucket_of agino)) agino found → SetsNext p q found (p.next agino) → PassesOver p q agino lists
 passes_by_next p q agino found lists are first is_found set =
     let b : ℕ = bucket_of agino in
     let small = bucket_small agino in

@@ -2,14 +2,14 @@
 use Rattle.std.proofs.Common.{◌≡◌, ◌≢◌, ◌<◌, ℕ, List, [], ◌∷◌, ◌++◌, length, Contains, slice_index, refl, sym, ap, ◌∙◌, inl, inr, arith, append_assoc}
 use Rattle.std.proofs.lemmas.List.{append-nil}
 use Rattle.life_limits.specs.declared.TheConstants.{BUCKETS, NO_INODE}
-use Rattle.agi_buckets.specs.Buckets.{Pointers, AreBuckets, list_of}
+use Rattle.agi_buckets.specs.Buckets.{Pointers, AreBuckets, list_at}
 use Rattle.agi_buckets.specs.Walks.{IsWalk}
 use Rattle.agi_buckets.proofs.Lists.{fits_in, moved, moved_to, contains_cases, contains_none}
 use Rattle.agi_buckets.proofs.Chains.{NoMark, chain_moved, one_chain, chain_distinct, first_listed, next_listed}
 use Rattle.agi_buckets.proofs.Steps.{steps, steps_of}
 use Rattle.agi_buckets.proofs.Linked.{unmarked}
 
-pub walk_of : (p : Pointers) (lists : List (List ℕ)) (bucket : ℕ) → AreBuckets p lists → bucket < BUCKETS → IsWalk p (slice_index p.heads bucket) (list_of lists bucket)
+pub walk_of : (p : Pointers) (lists : List (List ℕ)) (bucket : ℕ) → AreBuckets p lists → bucket < BUCKETS → IsWalk p (slice_index p.heads bucket) (list_at lists bucket)
 walk_of p lists bucket are small = record { chain = (are.each bucket small).chain; placed = (are.each bucket small).placed; no_mark = are.no_mark }
 
 unmarked_walk : (p : Pointers) (f : ℕ) (rest : List ℕ) → IsWalk p f rest → NoMark NO_INODE rest

@@ -23,14 +23,14 @@ pub record IsBucket (p : Pointers) (bucket : ℕ) (members : List ℕ) : Type 0 
   pub own : AllByRecursion (λ agino. agino % BUCKETS ≡ bucket) members
 
 -- the list of a bucket among the lists
-abbrev pub list_of : List (List ℕ) → ℕ → List ℕ
-list_of lists bucket = slice_index_or lists bucket []
+abbrev pub list_at : List (List ℕ) → ℕ → List ℕ
+list_at lists bucket = slice_index_or lists bucket []
 
 -- the 64 lists that the pointers give
 pub record AreBuckets (p : Pointers) (lists : List (List ℕ)) : Type 0 where
   pub heads : length p.heads ≡ BUCKETS
   pub count : length lists ≡ BUCKETS
-  pub each : (bucket : ℕ) → bucket < BUCKETS → IsBucket p bucket (list_of lists bucket)
+  pub each : (bucket : ℕ) → bucket < BUCKETS → IsBucket p bucket (list_at lists bucket)
   pub no_mark : ¬ Contains p.places NO_INODE
 
 -- the pointers give 64 lists, and of these a fact holds
@@ -42,7 +42,7 @@ abbrev pub bucket_of : ℕ → ℕ
 bucket_of agino = agino % BUCKETS
 
 abbrev pub own_list : List (List ℕ) → ℕ → List ℕ
-own_list lists agino = list_of lists (bucket_of agino)
+own_list lists agino = list_at lists (bucket_of agino)
 
 -- what a pointer may be set to: an inode that has a place, or the end mark
 abbrev pub IsPointer : Pointers → ℕ → Type 0

@@ -15,7 +15,7 @@ abbrev pub LeadsTo : Pointers → ℕ → ℕ → Type 0
 LeadsTo p first agino = (members : List ℕ) × IsWalk p first members × Contains members agino
 
 -- the member whose next pointer is this inode
-pub record IsFound (p : Pointers) (first agino other : ℕ) : Type 0 where
+pub record PointsAtMember (p : Pointers) (first agino other : ℕ) : Type 0 where
   pub placed : Contains p.places other
   pub listed : (members : List ℕ) → IsWalk p first members → Contains members other
   pub points : p.next other ≡ agino

@@ -1,8 +1,8 @@
 // The lists of the buckets.
 
 ghost use Rattle.std.specs.Prelude.{◌≡◌, ◌≢◌, ◌≤◌, ◌<◌, ◌+◌, ℕ, List, Contains, IfOk};
-ghost use Rattle.agi_buckets.specs.Buckets.{AreBuckets, HaveBuckets, Puts, Removes, list_of, own_list};
-ghost use Rattle.agi_buckets.specs.Walks.{IsFound, LeadsTo, PassesOver};
+ghost use Rattle.agi_buckets.specs.Buckets.{AreBuckets, HaveBuckets, Puts, Removes, list_at, own_list};
+ghost use Rattle.agi_buckets.specs.Walks.{PointsAtMember, LeadsTo, PassesOver};
 ghost use Rattle.life_limits.specs.declared.TheConstants.{BUCKETS};
 
 use crate::Nexts;
@@ -29,7 +29,7 @@ pub fn put<N: Nexts>(n: &mut N, agino: u32)
 fn find_before<N: Nexts>(n: &N, first: u32, agino: u32) -> u32
     requires behind { first ≢ agino }
     requires listed { LeadsTo (N.pointers n.now) first agino }
-    ensures { IsFound (N.pointers n.now) first agino result }
+    ensures { PointsAtMember (N.pointers n.now) first agino result }
 {
     let mut at = first;
     loop {
@@ -77,7 +77,7 @@ pub fn list<N: Nexts>(alloc: Global, n: &N, bucket: u32) -> Result<Vec<u32>, NoM
     requires bucket { bucket < BUCKETS }
     requires lists { (lists : List (List ℕ)) × AreBuckets (N.pointers n.now) lists }
     ensures { IfOk result (λ found. (lists : List (List ℕ)) → AreBuckets (N.pointers n.now) lists
-        → found.items ≡ list_of lists bucket) }
+        → found.items ≡ list_at lists bucket) }
 {
     let mut members = Vec::new(alloc);
     let mut at = n.head(bucket);

@@ -9,7 +9,7 @@ use Rattle.std.proofs.lemmas.Option.{slice_get-map, slice_get-get_or, get_or_fro
 use Rattle.life_bytes.specs.declared.sector.Sector.{Sector}
 use Rattle.disk_model.specs.declared.memory_disk.Entry.{Entry}
 use Rattle.disk_model.specs.Disk.{Cell, MayLeave, IsImage, settled, settled_as, overwritten, written, flushed}
-use Rattle.disk_model.specs.MemoryDisk.{Change, after_change, replayed}
+use Rattle.disk_model.specs.MemoryDisk.{Change, after_change, after_changes}
 use Rattle.disk_model.specs.MemoryDisk.Change.{Write, Flush}
 use Rattle.disk_model.specs.DiskLaws.{length-written, length-flushed, length-settled_as}
 use Rattle.disk_model.specs.Outcome.{candidates, candidate_at, picked}
@@ -64,12 +64,12 @@ get-after : (cells : List Cell) (change : Change) (at : ℕ) (cell : Cell) → s
 get-after cells (Write start pieces) at cell there = get-written start pieces cells at cell there
 get-after cells Flush at cell there = slice_get-map (λ c. settled c.reads) cells at ∙ ap (λ o. option_map (λ c. settled c.reads) o) there
 
-get-replayed : (cells : List Cell) (changes : List Change) (at : ℕ) (cell : Cell) → slice_get cells at ≡ Some cell → slice_get (replayed cells changes) at ≡ Some (cell_replayed at cell changes)
+get-replayed : (cells : List Cell) (changes : List Change) (at : ℕ) (cell : Cell) → slice_get cells at ≡ Some cell → slice_get (after_changes cells changes) at ≡ Some (cell_replayed at cell changes)
 get-replayed cells [] at cell there = there
 get-replayed cells (change ∷ changes) at cell there =
     get-replayed (after_change cells change) changes at (cell_after at cell change) (get-after cells change at cell there)
 
-pub length-replayed : (cells : List Cell) (changes : List Change) → length (replayed cells changes) ≡ length cells
+pub length-replayed : (cells : List Cell) (changes : List Change) → length (after_changes cells changes) ≡ length cells
 length-replayed cells [] = refl
 length-replayed cells (Write at pieces ∷ changes) = length-replayed (written at pieces cells) changes ∙ length-written at pieces cells
 length-replayed cells (Flush ∷ changes) = length-replayed (flushed cells) changes ∙ length-flushed cells
@@ -82,13 +82,13 @@ front_of xs ys at d x y same =
     (cc, cc)
 
 pub picked-more : (choice rest at : ℕ) (changes : List Change) (old now : List Sector) (d : Sector) → at < length old → length now ≡ length old → drop at now ≡ drop at old
-    → picked choice (replayed (settled_as old) changes) ≡ take at now ++ picked rest (drop at (replayed (settled_as old) changes))
+    → picked choice (after_changes (settled_as old) changes) ≡ take at now ++ picked rest (drop at (after_changes (settled_as old) changes))
     → let cell = cell_replayed at (settled (get_or now at d)) changes in
-    picked choice (replayed (settled_as old) changes)
+    picked choice (after_changes (settled_as old) changes)
     ≡ take (at + 1) (set now at (candidate_at cell (rest % length (candidates cell))))
-    ++ picked (rest / length (candidates cell)) (drop (at + 1) (replayed (settled_as old) changes))
+    ++ picked (rest / length (candidates cell)) (drop (at + 1) (after_changes (settled_as old) changes))
 picked-more choice rest at changes old now d below same_length same done =
-    let cells = replayed (settled_as old) changes in
+    let cells = after_changes (settled_as old) changes in
     let cell = cell_replayed at (settled (get_or now at d)) changes in
     let value = candidate_at cell (rest % length (candidates cell)) in
     let others = picked (rest / length (candidates cell)) (drop (at + 1) cells) in
@@ -115,9 +115,9 @@ others-more at old now d value below same_length same =
     ∙ ap (λ n. drop n old) (sym (add-one at))
 
 pub picked-all : (choice rest at : ℕ) (changes : List Change) (old now : List Sector) → length old ≤ at → length now ≡ length old
-    → picked choice (replayed (settled_as old) changes) ≡ take at now ++ picked rest (drop at (replayed (settled_as old) changes)) → now ≡ picked choice (replayed (settled_as old) changes)
+    → picked choice (after_changes (settled_as old) changes) ≡ take at now ++ picked rest (drop at (after_changes (settled_as old) changes)) → now ≡ picked choice (after_changes (settled_as old) changes)
 picked-all choice rest at changes old now past same_length done =
-    let cells = replayed (settled_as old) changes in
+    let cells = after_changes (settled_as old) changes in
     let few : length cells ≤ at = omega (arith, length-replayed (settled_as old) changes, length-settled_as old) in
     sym
     (done

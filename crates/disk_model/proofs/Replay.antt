@@ -6,9 +6,9 @@ use Rattle.life_bytes.specs.declared.sector.Sector.{Sector}
 use Rattle.disk_model.specs.Disk.{Cell, IsImage, as_read, settled_as, IsPartlyWritten, Elapses}
 use Rattle.disk_model.specs.DiskLaws.{as_read-flushed, as_read-written, length-flushed, length-written}
 use Rattle.disk_model.specs.MemoryDisk.Change.{Write, Flush}
-use Rattle.disk_model.specs.MemoryDisk.{Change, DiskRecord, after_change, replayed, cells_after, cells_of, left_from, with_change}
+use Rattle.disk_model.specs.MemoryDisk.{Change, DiskRecord, after_change, after_changes, cells_after, cells_of, left_from, with_change}
 
-pub replayed-push : (cells : List Cell) (changes : List Change) (change : Change) → replayed cells (changes ++ change ∷ []) ≡ after_change (replayed cells changes) change
+pub replayed-push : (cells : List Cell) (changes : List Change) (change : Change) → after_changes cells (changes ++ change ∷ []) ≡ after_change (after_changes cells changes) change
 replayed-push cells [] change = refl
 replayed-push cells (first ∷ changes) change = replayed-push (after_change cells first) changes change
 
@@ -16,11 +16,11 @@ pub cells_of-with_change : (disk : DiskRecord) (change : Change) → cells_of (w
 cells_of-with_change disk change = replayed-push (settled_as disk.first) disk.changes change
 
 left_before : (disk : DiskRecord) (change : Change) (k : ℕ) → k ≤ length disk.changes → cells_after (with_change disk change) k ≡ cells_after disk k
-left_before disk change k within = ap (λ changes. replayed (settled_as disk.first) changes) (take-append-le k disk.changes (change ∷ []) within)
+left_before disk change k within = ap (λ changes. after_changes (settled_as disk.first) changes) (take-append-le k disk.changes (change ∷ []) within)
 
 left_after : (disk : DiskRecord) (change : Change) (k : ℕ) → length disk.changes + 1 ≤ k → cells_after (with_change disk change) k ≡ after_change (cells_of disk) change
 left_after disk change k past =
-    ap (λ changes. replayed (settled_as disk.first) changes) (take_all k (disk.changes ++ change ∷ []) (omega (arith, length-append disk.changes (change ∷ []))))
+    ap (λ changes. after_changes (settled_as disk.first) changes) (take_all k (disk.changes ++ change ∷ []) (omega (arith, length-append disk.changes (change ∷ []))))
     ∙ cells_of-with_change disk change
 
 -- a stop may leave in one change more what it might leave before, and what it may leave after
@@ -66,12 +66,12 @@ length-written_changed old new at pieces changed = ap length (cells_of-changed o
 
 -- ---- what reads give
 
-pub reads_after_flush : (cells : List Cell) (changes next : List Change) (sectors : List Sector) → next ≡ changes ++ Flush ∷ [] → sectors ≡ as_read (replayed cells changes) → sectors ≡ as_read (replayed cells next)
+pub reads_after_flush : (cells : List Cell) (changes next : List Change) (sectors : List Sector) → next ≡ changes ++ Flush ∷ [] → sectors ≡ as_read (after_changes cells changes) → sectors ≡ as_read (after_changes cells next)
 reads_after_flush cells changes next sectors pushed reads =
-    reads ∙ sym (as_read-flushed (replayed cells changes)) ∙ sym (ap (λ cs. as_read cs) (ap (λ cs. replayed cells cs) pushed ∙ replayed-push cells changes Flush))
+    reads ∙ sym (as_read-flushed (after_changes cells changes)) ∙ sym (ap (λ cs. as_read cs) (ap (λ cs. after_changes cells cs) pushed ∙ replayed-push cells changes Flush))
 
-pub reads_after_write : (cells : List Cell) (changes next : List Change) (at : ℕ) (pieces before after : List Sector) → next ≡ changes ++ Write at pieces ∷ [] → before ≡ as_read (replayed cells changes)
-    → after ≡ take at before ++ pieces ++ drop (at + length pieces) before → at + length pieces ≤ length (replayed cells changes) → after ≡ as_read (replayed cells next)
+pub reads_after_write : (cells : List Cell) (changes next : List Change) (at : ℕ) (pieces before after : List Sector) → next ≡ changes ++ Write at pieces ∷ [] → before ≡ as_read (after_changes cells changes)
+    → after ≡ take at before ++ pieces ++ drop (at + length pieces) before → at + length pieces ≤ length (after_changes cells changes) → after ≡ as_read (after_changes cells next)
 reads_after_write cells changes next at pieces before after pushed reads put within =
-    put ∙ ap (λ xs. take at xs ++ pieces ++ drop (at + length pieces) xs) reads ∙ sym (as_read-written at pieces (replayed cells changes) within)
-    ∙ sym (ap (λ cs. as_read cs) (ap (λ cs. replayed cells cs) pushed ∙ replayed-push cells changes (Write at pieces)))
+    put ∙ ap (λ xs. take at xs ++ pieces ++ drop (at + length pieces) xs) reads ∙ sym (as_read-written at pieces (after_changes cells changes) within)
+    ∙ sym (ap (λ cs. as_read cs) (ap (λ cs. after_changes cells cs) pushed ∙ replayed-push cells changes (Write at pieces)))

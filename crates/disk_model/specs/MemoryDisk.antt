@@ -25,17 +25,17 @@ after_change cells (Write at pieces) = written at pieces cells
 after_change cells Flush = flushed cells
 
 -- the sectors after these changes
-abbrev pub replayed : List Cell → List Change → List Cell
-replayed cells [] = cells
-replayed cells (change ∷ changes) = replayed (after_change cells change) changes
+abbrev pub after_changes : List Cell → List Change → List Cell
+after_changes cells [] = cells
+after_changes cells (change ∷ changes) = after_changes (after_change cells change) changes
 
 -- the sectors after the first k changes
 abbrev pub cells_after : DiskRecord → ℕ → List Cell
-cells_after disk k = replayed (settled_as disk.first) (take k disk.changes)
+cells_after disk k = after_changes (settled_as disk.first) (take k disk.changes)
 
 -- the sectors now
 abbrev pub cells_of : DiskRecord → List Cell
-cells_of disk = replayed (settled_as disk.first) disk.changes
+cells_of disk = after_changes (settled_as disk.first) disk.changes
 
 -- a stop after some number of changes, no fewer than these, may have left the image
 abbrev pub left_from : DiskRecord → ℕ → List Sector → Type 0

@@ -33,12 +33,12 @@ faults_of fault_count disk = count_with (count_with (fault_count disk.inner) dis
 abbrev pub HasStopped : Arming → Type 0
 HasStopped arming = arming.stopped ≡ true
 
-abbrev pub GoesOn : Arming → Type 0
-GoesOn arming = arming.stopped ≡ false
+abbrev pub IsRunning : Arming → Type 0
+IsRunning arming = arming.stopped ≡ false
 
 -- the disk stops within its next write, behind so many sectors of it
 pub record StopsNext (arming : Arming) (sectors : ℕ) : Type 0 where
-  pub goes_on : GoesOn arming
+  pub goes_on : IsRunning arming
   pub writes : ℕ
   pub last : writes ≤ 1
   pub armed : arming.armed ≡ Some (record { writes = writes; sectors = sectors })
@@ -51,5 +51,5 @@ pub count_with-none : (count : ℕ) → count_with count 0 ≡ count
 count_with-none count = omega arith
 
 -- a disk that goes on has the faults of the disk beneath and of earlier stops
-pub faults_of-going_on : {D : Type 0} (fault_count : D → ℕ) (disk : StopDisk D) → GoesOn (arming_of disk) → faults_of fault_count disk ≡ count_with (fault_count (inner_of disk)) (arming_of disk).earlier
+pub faults_of-going_on : {D : Type 0} (fault_count : D → ℕ) (disk : StopDisk D) → IsRunning (arming_of disk) → faults_of fault_count disk ≡ count_with (fault_count (inner_of disk)) (arming_of disk).earlier
 faults_of-going_on fault_count disk goes_on = ap (λ n. count_with (count_with (fault_count disk.inner) disk.earlier) n) (disk.none_yet goes_on) ∙ count_with-none (count_with (fault_count disk.inner) disk.earlier)

@@ -1,7 +1,7 @@
 // A disk that fails at chosen calls.
 ghost use Rattle.std.specs.Prelude.{◌≡◌, ◌<◌, ◌≤◌, ◌+◌, [], length, IsTrue, IsErr, IfOk, OnOk, OnErr, Some, slice_get, replicate};
 ghost use Rattle.life_bytes.specs.Sectors.{zero_sector};
-ghost use Rattle.life_ports.specs.FaultPlan.{FailsNext, after_call, after_fault};
+ghost use Rattle.life_ports.specs.FaultPlan.{FailsNext, plan_after_call, after_fault};
 ghost use Rattle.life_ports.specs.Faults.{HasCause};
 ghost use Rattle.disk_model.specs.Disk.{IsImage, as_read, settled_as, written, flushed, IsPartlyWritten, Elapses};
 ghost use Rattle.disk_model.specs.FaultDisk.{FailsHere};
@@ -92,8 +92,8 @@ impl<D: Disk> Disk for FaultDisk<D> {
             × (inner_of self.new ≡ inner_of self.old) }
         ensures unlisted { OnErr result (FailsHere (plan_of self.old)
             (D.fault_count (inner_of self.old)) (D.fault_count (inner_of self.new))) }
-        ensures ok { OnOk result (plan_of self.new ≡ after_call (plan_of self.old)) }
-        ensures err { OnErr result (plan_of self.new ≡ after_fault (after_call (plan_of self.old))) }
+        ensures ok { OnOk result (plan_of self.new ≡ plan_after_call (plan_of self.old)) }
+        ensures err { OnErr result (plan_of self.new ≡ after_fault (plan_after_call (plan_of self.old))) }
 
         ensures read { IsTrue D.known → OnOk result
             (slice_get (as_read (D.cells (inner_of self.old))) at ≡ Some into.new) }
@@ -120,8 +120,8 @@ impl<D: Disk> Disk for FaultDisk<D> {
             × (inner_of self.new ≡ inner_of self.old) }
         ensures unlisted { OnErr result (FailsHere (plan_of self.old)
             (D.fault_count (inner_of self.old)) (D.fault_count (inner_of self.new))) }
-        ensures ok { OnOk result (plan_of self.new ≡ after_call (plan_of self.old)) }
-        ensures err { OnErr result (plan_of self.new ≡ after_fault (after_call (plan_of self.old))) }
+        ensures ok { OnOk result (plan_of self.new ≡ plan_after_call (plan_of self.old)) }
+        ensures err { OnErr result (plan_of self.new ≡ after_fault (plan_after_call (plan_of self.old))) }
 
         ensures written { IsTrue D.known → OnOk result (D.cells (inner_of self.new)
             ≡ written at pieces.now (D.cells (inner_of self.old))) }
@@ -146,8 +146,8 @@ impl<D: Disk> Disk for FaultDisk<D> {
             × (inner_of self.new ≡ inner_of self.old) }
         ensures unlisted { OnErr result (FailsHere (plan_of self.old)
             (D.fault_count (inner_of self.old)) (D.fault_count (inner_of self.new))) }
-        ensures ok { OnOk result (plan_of self.new ≡ after_call (plan_of self.old)) }
-        ensures err { OnErr result (plan_of self.new ≡ after_fault (after_call (plan_of self.old))) }
+        ensures ok { OnOk result (plan_of self.new ≡ plan_after_call (plan_of self.old)) }
+        ensures err { OnErr result (plan_of self.new ≡ after_fault (plan_after_call (plan_of self.old))) }
 
         ensures flushed { IsTrue D.known → OnOk result (D.cells (inner_of self.new)
             ≡ flushed (D.cells (inner_of self.old))) }

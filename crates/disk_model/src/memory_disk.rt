@@ -38,7 +38,7 @@ pub struct MemoryDisk {
 impl Model for MemoryDisk {
     ghost use Rattle.std.specs.Prelude.{◌≡◌};
     ghost use Rattle.disk_model.specs.Disk.{as_read};
-    ghost use Rattle.disk_model.specs.MemoryDisk.{DiskRecord, cells_of, replayed};
+    ghost use Rattle.disk_model.specs.MemoryDisk.{DiskRecord, cells_of, after_changes};
     ghost use Rattle.disk_model.specs.Disk.{settled_as};
     ghost use Rattle.disk_model.specs.MemoryEntry.{changes_of};
 
@@ -48,7 +48,7 @@ impl Model for MemoryDisk {
         { first = d.first.items; changes = changes_of d.entries.items; faults = d.faults } };
 
     ghost invariant = { λ d. d.sectors.items
-        ≡ as_read (replayed (settled_as d.first.items) (changes_of d.entries.items)) };
+        ≡ as_read (after_changes (settled_as d.first.items) (changes_of d.entries.items)) };
 }
 
 impl MemoryDisk {

@@ -1,7 +1,7 @@
 // Disks that stand at paths in memory.
 ghost use Rattle.std.specs.Prelude.{◌≡◌, ◌≢◌, ◌⊎◌, ◌↔◌, ◌++◌, [], ◌∷◌, ℕ, List, replicate, None, Some, IsTrue, IsErr, IsErrOf, IsSome, IfOk, IfErr, IfSome, OnOk, OnErr};
 ghost use Rattle.life_bytes.specs.Sectors.{zero_sector};
-ghost use Rattle.life_ports.specs.FaultPlan.{FailsNext, after_call, after_fault};
+ghost use Rattle.life_ports.specs.FaultPlan.{FailsNext, plan_after_call, after_fault};
 ghost use Rattle.life_ports.specs.Faults.{HasCauseOrNoMemory};
 ghost use Rattle.disk_model.specs.Disk.{HasOneImage, settled_as};
 ghost use Rattle.disk_model.specs.Images.{attached, created as made};
@@ -137,11 +137,11 @@ impl<D: Blank + Send> Images for MemoryImages<D> {
         ensures taken { OnOk result (disk_at self.new path.now ≡ None) }
         ensures apart { KeepsOthers path.now self.old self.new }
         ensures disks_kept { OnErr result (self.new.disks ≡ self.old.disks) }
-        ensures plan_ok { OnOk result (self.new.plan ≡ after_call self.old.plan) }
+        ensures plan_ok { OnOk result (self.new.plan ≡ plan_after_call self.old.plan) }
         ensures plan_failed { IsErrOf result Refused.Failed →
-            self.new.plan ≡ after_fault (after_call self.old.plan) }
+            self.new.plan ≡ after_fault (plan_after_call self.old.plan) }
         ensures plan_no_memory { IsErrOf result Refused.NoMemory →
-            self.new.plan ≡ after_call self.old.plan }
+            self.new.plan ≡ plan_after_call self.old.plan }
 
         ensures given { IfOk result (λ disk. self.new.given
             ≡ self.old.given ++ attached path.now (D.fault_count disk) ∷ []) }
@@ -172,11 +172,11 @@ impl<D: Blank + Send> Images for MemoryImages<D> {
             FailsNext self.old.plan ⊎ IsSome (disk_at self.old path.now) }
 
         ensures disks_kept { self.new.disks ≡ self.old.disks }
-        ensures plan_ok { OnOk result (self.new.plan ≡ after_call self.old.plan) }
+        ensures plan_ok { OnOk result (self.new.plan ≡ plan_after_call self.old.plan) }
         ensures plan_failed { IsErrOf result Refused.Failed →
-            self.new.plan ≡ after_fault (after_call self.old.plan) }
+            self.new.plan ≡ after_fault (plan_after_call self.old.plan) }
         ensures plan_no_memory { IsErrOf result Refused.NoMemory →
-            self.new.plan ≡ after_call self.old.plan }
+            self.new.plan ≡ plan_after_call self.old.plan }
 
         ensures given { IfOk result (λ disk. self.new.given
             ≡ self.old.given ++ made path.now (D.fault_count disk) ∷ []) }

@@ -2,7 +2,7 @@
 ghost use Rattle.std.specs.Prelude.{◌≡◌, ◌<◌, ◌≤◌, ◌+◌, ◌/◌, ◌%◌, ◌^◌, length};
 ghost use Rattle.std.specs.Option.{option_copied};
 ghost use Rattle.disk_model.specs.Disk.{Cell, settled, settled_as};
-ghost use Rattle.disk_model.specs.MemoryDisk.{replayed};
+ghost use Rattle.disk_model.specs.MemoryDisk.{after_changes};
 ghost use Rattle.disk_model.specs.MemoryEntry.{change_of, changes_of};
 ghost use Rattle.disk_model.specs.OneSector.{piece_for, cell_after, cell_replayed, Walked};
 ghost use Rattle.disk_model.specs.Outcome.{candidates, candidate_at, picked};
@@ -88,7 +88,7 @@ fn outcome(first: &Sector, entries: &[Entry], at: u64, choice: u64) -> (Sector, 
 
 /// Puts one outcome of a stop in the place of what the disk held at first.
 pub(crate) fn settle(first: &mut [Sector], entries: &[Entry], choice: u64)
-    ensures { first.new ≡ picked choice (replayed (settled_as first.old) (changes_of entries.now)) }
+    ensures { first.new ≡ picked choice (after_changes (settled_as first.old) (changes_of entries.now)) }
 {
     let mut rest = choice;
     for at in 0..first.len() {

@@ -30,7 +30,7 @@ pub struct StopDisk<D> {
 }
 
 impl<D: Disk> StopDisk<D> {
-    ghost use Rattle.disk_model.specs.StopDisk.{inner_of, arming_of, failures_of, faults_of, HasStopped, GoesOn, Passes};
+    ghost use Rattle.disk_model.specs.StopDisk.{inner_of, arming_of, failures_of, faults_of, HasStopped, IsRunning, Passes};
 
     /// A disk on which nothing is armed.
     pub fn new(inner: D) -> StopDisk<D>
@@ -51,7 +51,7 @@ impl<D: Disk> StopDisk<D> {
     pub fn restart(&mut self)
         ensures inner { inner_of self.new ≡ inner_of self.old }
         ensures armed { (arming_of self.new).armed ≡ None }
-        ensures goes_on { GoesOn (arming_of self.new) }
+        ensures goes_on { IsRunning (arming_of self.new) }
         ensures count { faults_of D.fault_count self.new ≡ faults_of D.fault_count self.old }
     {
         self.earlier = self.earlier.saturating_add(self.failures);
@@ -82,7 +82,7 @@ impl<D: Disk> StopDisk<D> {
     fn go_on(&mut self) -> Result<(), Failed>
         ensures inner { inner_of self.new ≡ inner_of self.old }
         ensures arming { arming_of self.new ≡ arming_of self.old }
-        ensures ok { OnOk result (GoesOn (arming_of self.old) × (failures_of self.new ≡ failures_of self.old)) }
+        ensures ok { OnOk result (IsRunning (arming_of self.old) × (failures_of self.new ≡ failures_of self.old)) }
         ensures err { OnErr result (HasStopped (arming_of self.old)
             × (failures_of self.new ≡ next_count (failures_of self.old))) }
     {
@@ -118,7 +118,7 @@ impl<D: Disk> StopDisk<D> {
 }
 
 impl<D: Disk> Disk for StopDisk<D> {
-    ghost use Rattle.disk_model.specs.StopDisk.{inner_of, arming_of, failures_of, faults_of, HasStopped, GoesOn, StopsNext, Passes};
+    ghost use Rattle.disk_model.specs.StopDisk.{inner_of, arming_of, failures_of, faults_of, HasStopped, IsRunning, StopsNext, Passes};
 
     ghost known = { D.known };
 
@@ -156,7 +156,7 @@ impl<D: Disk> Disk for StopDisk<D> {
         ensures stopped { HasStopped (arming_of self.old) → IsErr result
             × (inner_of self.new ≡ inner_of self.old)
             × (failures_of self.new ≡ next_count (failures_of self.old)) }
-        ensures goes_on { GoesOn (arming_of self.old) →
+        ensures goes_on { IsRunning (arming_of self.old) →
             HasCause result (D.fault_count (inner_of self.old)) (D.fault_count (inner_of self.new))
             × (failures_of self.new ≡ failures_of self.old) }
 
@@ -188,7 +188,7 @@ impl<D: Disk> Disk for StopDisk<D> {
             × (IsTrue D.known → Passes at (take sectors pieces.now)
             (D.fault_count (inner_of self.old)) (D.fault_count (inner_of self.new))
             (D.cells (inner_of self.old)) (D.cells (inner_of self.new))) }
-        ensures goes_on { GoesOn (arming_of self.new) →
+        ensures goes_on { IsRunning (arming_of self.new) →
             HasCause result (D.fault_count (inner_of self.old)) (D.fault_count (inner_of self.new))
             × (failures_of self.new ≡ failures_of self.old) }
 
@@ -224,7 +224,7 @@ impl<D: Disk> Disk for StopDisk<D> {
         ensures stopped { HasStopped (arming_of self.old) → IsErr result
             × (inner_of self.new ≡ inner_of self.old)
             × (failures_of self.new ≡ next_count (failures_of self.old)) }
-        ensures goes_on { GoesOn (arming_of self.old) →
+        ensures goes_on { IsRunning (arming_of self.old) →
             HasCause result (D.fault_count (inner_of self.old)) (D.fault_count (inner_of self.new))
             × (failures_of self.new ≡ failures_of self.old) }
 

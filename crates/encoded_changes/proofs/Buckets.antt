@@ -8,7 +8,7 @@ use Rattle.geometry.specs.declared.shape.Geometry.{Geometry}
 use Rattle.agi_buckets.specs.Buckets.{without}
 use Rattle.life_table.specs.Table.{Group, inode_in}
 use Rattle.life_table.specs.Space.{times}
-use Rattle.sound_image.specs.Encoding.{Layouts, head_of, next_in, list_of, page_of, header_for}
+use Rattle.sound_image.specs.Encoding.{Layouts, head_of, next_in, bucket_list, page_of, header_for}
 use Rattle.encoded_changes.specs.Carry.{Stays}
 use Rattle.encoded_changes.specs.Changes.{PutsFirst, TakesOut}
 use Rattle.encoded_changes.proofs.Places.{header_made, inode_by, page_by, same_metadata}
@@ -149,7 +149,7 @@ map_range f g a (suc n) each =
     ∙ ap (λ (xs : List ℕ). g a ∷ xs) (map_range f g (a + 1) n (λ k lt. each k (omega arith)))
 
 abbrev heads : Layouts → ℕ → List ℕ
-heads layouts group = map (λ bucket. head_of (list_of layouts group bucket)) (range_with_len 0 BUCKETS)
+heads layouts group = map (λ bucket. head_of (bucket_list layouts group bucket)) (range_with_len 0 BUCKETS)
 
 header_is : (g : Geometry) (layouts : Layouts) (group : ℕ) (chunks : Group) → header_for g group chunks layouts ≡ header_made g group chunks (page_of layouts group) (heads layouts group)
 unfolding header_for
@@ -163,23 +163,23 @@ same_heads g layouts others group chunks page same =
     ∙ ap (header_made g group chunks (page_of layouts group)) same
     ∙ sym (header_is g layouts group chunks)
 
-head_stays : (layouts others : Layouts) (group agino bucket : ℕ) → TakesOut layouts others group agino → head_of (list_of layouts group (agino % BUCKETS)) ≢ agino → bucket < BUCKETS
-    → head_of (list_of others group bucket) ≡ head_of (list_of layouts group bucket)
+head_stays : (layouts others : Layouts) (group agino bucket : ℕ) → TakesOut layouts others group agino → head_of (bucket_list layouts group (agino % BUCKETS)) ≢ agino → bucket < BUCKETS
+    → head_of (bucket_list others group bucket) ≡ head_of (bucket_list layouts group bucket)
 head_stays layouts others group agino bucket out apart low =
     elim (cases_eq bucket (agino % BUCKETS)) [
-      | inl own ↦ subst (λ (b : ℕ). head_of (list_of others group b) ≡ head_of (list_of layouts group b)) (sym own)
-          (ap head_of out.own ∙ head-without (list_of layouts group (agino % BUCKETS)) agino apart)
+      | inl own ↦ subst (λ (b : ℕ). head_of (bucket_list others group b) ≡ head_of (bucket_list layouts group b)) (sym own)
+          (ap head_of out.own ∙ head-without (bucket_list layouts group (agino % BUCKETS)) agino apart)
       | inr other ↦ ap head_of (out.lists bucket low other)
     ]
 
 -- ---- each place
 
 put_next : (layouts others : Layouts) (group agino place : ℕ) → PutsFirst layouts others group agino → place ≢ agino
-    → next_in (list_of others group (place % BUCKETS)) place ≡ next_in (list_of layouts group (place % BUCKETS)) place
+    → next_in (bucket_list others group (place % BUCKETS)) place ≡ next_in (bucket_list layouts group (place % BUCKETS)) place
 put_next layouts others group agino place puts apart =
     elim (cases_eq (place % BUCKETS) (agino % BUCKETS)) [
-      | inl own ↦ subst (λ (b : ℕ). next_in (list_of others group b) place ≡ next_in (list_of layouts group b) place) (sym own)
-          (ap (λ (l : List ℕ). next_in l place) puts.own ∙ next-put (list_of layouts group (agino % BUCKETS)) agino place apart)
+      | inl own ↦ subst (λ (b : ℕ). next_in (bucket_list others group b) place ≡ next_in (bucket_list layouts group b) place) (sym own)
+          (ap (λ (l : List ℕ). next_in l place) puts.own ∙ next-put (bucket_list layouts group (agino % BUCKETS)) agino place apart)
       | inr other ↦ ap (λ (l : List ℕ). next_in l place) (puts.lists (place % BUCKETS) (omega arith) other)
     ]
 
@@ -192,24 +192,24 @@ put_touches g layouts others group chunks agino place puts apart no_header =
     (λ e. page_by g layouts others group chunks puts.page)
     (inode_by g layouts others group place (inode_in chunks place) (put_next layouts others group agino place puts apart))
 
-taken_next : (layouts others : Layouts) (group agino place : ℕ) → TakesOut layouts others group agino → place ≢ agino → next_in (list_of layouts group (agino % BUCKETS)) place ≢ agino
-    → next_in (list_of others group (place % BUCKETS)) place ≡ next_in (list_of layouts group (place % BUCKETS)) place
+taken_next : (layouts others : Layouts) (group agino place : ℕ) → TakesOut layouts others group agino → place ≢ agino → next_in (bucket_list layouts group (agino % BUCKETS)) place ≢ agino
+    → next_in (bucket_list others group (place % BUCKETS)) place ≡ next_in (bucket_list layouts group (place % BUCKETS)) place
 taken_next layouts others group agino place out apart no_pointer =
     elim (cases_eq (place % BUCKETS) (agino % BUCKETS)) [
-      | inl own ↦ subst (λ (b : ℕ). next_in (list_of others group b) place ≡ next_in (list_of layouts group b) place) (sym own)
-          (ap (λ (l : List ℕ). next_in l place) out.own ∙ next-without (list_of layouts group (agino % BUCKETS)) agino place apart no_pointer)
+      | inl own ↦ subst (λ (b : ℕ). next_in (bucket_list others group b) place ≡ next_in (bucket_list layouts group b) place) (sym own)
+          (ap (λ (l : List ℕ). next_in l place) out.own ∙ next-without (bucket_list layouts group (agino % BUCKETS)) agino place apart no_pointer)
       | inr other ↦ ap (λ (l : List ℕ). next_in l place) (out.lists (place % BUCKETS) (omega arith) other)
     ]
 
 pub taken_touches : (g : Geometry) (layouts others : Layouts) (group : ℕ) (chunks : Group) (agino place : ℕ) → TakesOut layouts others group agino → place ≢ agino
-    → (place ≢ 2) ⊎ (head_of (list_of layouts group (agino % BUCKETS)) ≢ agino) → next_in (list_of layouts group (agino % BUCKETS)) place ≢ agino
+    → (place ≢ 2) ⊎ (head_of (bucket_list layouts group (agino % BUCKETS)) ≢ agino) → next_in (bucket_list layouts group (agino % BUCKETS)) place ≢ agino
     → Stays g group layouts chunks others chunks place
 taken_touches g layouts others group chunks agino place out apart header no_pointer =
     same_metadata g layouts others group chunks chunks place out.page
     (λ e. elim header [
       | inl no_header ↦ absurd (no_header e)
       | inr no_head ↦ same_heads g layouts others group chunks out.page
-          (map_range (λ bucket. head_of (list_of others group bucket)) (λ bucket. head_of (list_of layouts group bucket)) 0 BUCKETS
+          (map_range (λ bucket. head_of (bucket_list others group bucket)) (λ bucket. head_of (bucket_list layouts group bucket)) 0 BUCKETS
           (λ bucket low. head_stays layouts others group agino bucket out no_head (omega arith)))
     ])
     (λ e. refl)

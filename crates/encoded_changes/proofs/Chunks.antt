@@ -10,7 +10,7 @@ use Rattle.life_table.specs.Table.{Group, inode_in, start_of}
 use Rattle.life_table.specs.Space.{insert_chunk}
 use Rattle.sound_image.specs.Encoding.{Layouts, inode_sector, page_place}
 use Rattle.encoded_changes.specs.Carry.{Stays}
-use Rattle.encoded_changes.specs.Changes.{IsOfBitmap, IsOfChunk, IsOfPage}
+use Rattle.encoded_changes.specs.Changes.{IsOfBitmap, IsChunkPlace, IsOfPage}
 use Rattle.encoded_changes.proofs.Places.{same_metadata}
 use Rattle.encoded_changes.proofs.Groups.{of_bitmap, of_page}
 
@@ -23,11 +23,11 @@ inode_in-insert_other new (chunk ∷ chunks) place apart =
       | false ↦ ap (λ o. cond (eqb chunk.start (start_of place)) (slice_get chunk.inodes (place % CHUNK_INODES)) o) (inode_in-insert_other new chunks place apart)
     ]
 
-outside : (start place : ℕ) → ¬ IsOfChunk start place → start ≢ start_of place
+outside : (start place : ℕ) → ¬ IsChunkPlace start place → start ≢ start_of place
 outside start place out e = out (omega arith, omega arith)
 
 pub chunk_touches : (g : Geometry) (layouts : Layouts) (group : ℕ) (chunks : Group) (new : Chunk) (place : ℕ)
-    → place ≢ 2 → ¬ IsOfBitmap place → ¬ IsOfPage layouts group place → ¬ IsOfChunk new.start place
+    → place ≢ 2 → ¬ IsOfBitmap place → ¬ IsOfPage layouts group place → ¬ IsChunkPlace new.start place
     → Stays g group layouts chunks layouts (insert_chunk new chunks) place
 chunk_touches g layouts group chunks new place no_header no_bitmap no_page out =
     same_metadata g layouts layouts group chunks (insert_chunk new chunks) place refl

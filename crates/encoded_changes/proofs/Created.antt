@@ -12,10 +12,10 @@ use Rattle.life_table.specs.declared.types.Row.{Row}
 use Rattle.life_table.specs.declared.table.Inode.{Inode}
 use Rattle.life_table.specs.declared.table.Chunk.{Chunk}
 use Rattle.life_table.specs.declared.table.Table.{Table}
-use Rattle.life_table.specs.Table.{Group, group_of, inode_in, inode_of, start_of}
+use Rattle.life_table.specs.Table.{Group, group_at, inode_in, inode_of, start_of}
 use Rattle.life_table.specs.Space.{times, chunk_blocks, used, is_free, keys_from, free_keys, lowest_key, chunk_place, begins_run, is_free_block, insert_chunk, new_chunk, with_chunk, prepared}
 use Rattle.life_table.specs.Legal.{IsNextKey, prepare}
-use Rattle.life_table.specs.WellFormed.{IsChunk, IsDataBlock, IsGroup, IsTable, Ascends}
+use Rattle.life_table.specs.WellFormed.{IsChunk, IsDataBlock, IsGroup, IsTable, ChunksAscend}
 use Rattle.encoded_changes.specs.Changes.{unused_inode}
 use Rattle.encoded_changes.proofs.Buckets.{times-here, times-tail}
 use Rattle.encoded_changes.proofs.Inodes.{used_first}
@@ -65,7 +65,7 @@ all_well blocks (c ∷ cs) few is data_blocks = (
 
 record AreWell (group : Group) : Type 0 where
   each : AllByRecursion IsWell group
-  ascends : Ascends group
+  ascends : ChunksAscend group
 
 group_well : (blocks : ℕ) (group : Group) → blocks ≤ MAX_BLOCKS → IsGroup blocks group → AreWell group
 group_well blocks group few is = record { each = all_well blocks group few is.chunks is.data_blocks; ascends = is.ascends }
@@ -82,11 +82,11 @@ All-insert_chunk P new (chunk ∷ chunks) here all =
       | false ↦ (all.0, All-insert_chunk P new chunks here all.1)
     ]
 
-Ascends-insert_chunk : (new : Chunk) (group : Group) → IsAbsent new.start group → Ascends group → Ascends (insert_chunk new group)
+Ascends-insert_chunk : (new : Chunk) (group : Group) → IsAbsent new.start group → ChunksAscend group → ChunksAscend (insert_chunk new group)
 unfolding insert_chunk
 Ascends-insert_chunk new [] absent ascends = (tt, tt)
 Ascends-insert_chunk new (chunk ∷ chunks) absent ascends =
-    elim (nat_lt new.start chunk.start) as (λ c. nat_lt new.start chunk.start ≡ c → Ascends (if c then new ∷ chunk ∷ chunks else chunk ∷ insert_chunk new chunks)) [
+    elim (nat_lt new.start chunk.start) as (λ c. nat_lt new.start chunk.start ≡ c → ChunksAscend (if c then new ∷ chunk ∷ chunks else chunk ∷ insert_chunk new chunks)) [
       | true ↦ λ below.
           let low : new.start < chunk.start = ltb-true new.start chunk.start below in
           let later : AllByRecursion (λ (other : Chunk). new.start < other.start) chunks =
@@ -230,7 +230,7 @@ lowest-IsAmong g (chunk ∷ chunks) key at =
     ]
 
 -- the inode at a place of a chunk is that of its number
-inode_in-at : (group : Group) (where_ : ℕ) (chunk : Chunk) (place : ℕ) → Ascends group → slice_get group where_ ≡ Some chunk → chunk.start % CHUNK_INODES ≡ 0 → place < CHUNK_INODES
+inode_in-at : (group : Group) (where_ : ℕ) (chunk : Chunk) (place : ℕ) → ChunksAscend group → slice_get group where_ ≡ Some chunk → chunk.start % CHUNK_INODES ≡ 0 → place < CHUNK_INODES
     → inode_in group (chunk.start + place) ≡ slice_get chunk.inodes place
 unfolding inode_in
 inode_in-at [] where_ chunk place ascends at start low = absurd (none-some chunk at)
@@ -279,11 +279,11 @@ lowest_is g group key well at =
           ∙ ap (λ (x : Inode). Some x) (inode_made found.inode key found.life (no_row found.inode.row tests.0));
     }
 
-of_table : (t : Table) (group : ℕ) (key : Key) → IsTable t → IsNextKey t group key → IsAt group (prepared t.blocks group (group_of t group)) key
+of_table : (t : Table) (group : ℕ) (key : Key) → IsTable t → IsNextKey t group key → IsAt group (prepared t.blocks group (group_at t group)) key
 of_table t group key table next =
-    let is : IsGroup t.blocks (group_of t group) = All-from_recursion (IsGroup t.blocks) t.groups table.groups group [] next.0 in
-    lowest_is group (prepared t.blocks group (group_of t group)) key
-    (prepared_well t.blocks group (group_of t group) table.most (group_well t.blocks (group_of t group) table.most is)) next.1
+    let is : IsGroup t.blocks (group_at t group) = All-from_recursion (IsGroup t.blocks) t.groups table.groups group [] next.0 in
+    lowest_is group (prepared t.blocks group (group_at t group)) key
+    (prepared_well t.blocks group (group_at t group) table.most (group_well t.blocks (group_at t group) table.most is)) next.1
 
 pub created_group : (t : Table) (group : ℕ) (key : Key) → IsTable t → IsNextKey t group key → key.number / GROUP_NUMBERS ≡ group
 created_group t group key table next = (of_table t group key table next).group_is
@@ -292,10 +292,10 @@ pub created_inode : (t : Table) (group : ℕ) (key : Key) → IsTable t → IsNe
 unfolding inode_of
 created_inode t group key table next =
     let is = of_table t group key table next in
-    ap (λ (n : ℕ). inode_in (group_of (prepare t group) n) (key.number % GROUP_NUMBERS)) is.group_is
-    ∙ ap (λ (cs : Group). inode_in cs (key.number % GROUP_NUMBERS)) (own_group t group (prepared t.blocks group (group_of t group)) next.0)
+    ap (λ (n : ℕ). inode_in (group_at (prepare t group) n) (key.number % GROUP_NUMBERS)) is.group_is
+    ∙ ap (λ (cs : Group). inode_in cs (key.number % GROUP_NUMBERS)) (own_group t group (prepared t.blocks group (group_at t group)) next.0)
     ∙ is.at
 
 pub created_at : (t : Table) (group : ℕ) (key : Key) → IsTable t → IsNextKey t group key
-    → inode_in (prepared t.blocks group (group_of t group)) (key.number % GROUP_NUMBERS) ≡ Some (unused_inode key)
+    → inode_in (prepared t.blocks group (group_at t group)) (key.number % GROUP_NUMBERS) ≡ Some (unused_inode key)
 created_at t group key table next = (of_table t group key table next).at

@@ -8,9 +8,9 @@ use Rattle.agi_buckets.specs.Buckets.{without}
 use Rattle.life_table.specs.declared.table.Inode.{Inode}
 use Rattle.life_table.specs.declared.table.Chunk.{Chunk}
 use Rattle.life_table.specs.declared.table.Table.{Table}
-use Rattle.life_table.specs.Table.{Group, group_of, inode_in, set_inode, start_of, with_group}
+use Rattle.life_table.specs.Table.{Group, group_at, inode_in, set_inode, start_of, with_group}
 use Rattle.life_table.specs.Space.{times, insert_chunk, new_chunk}
-use Rattle.sound_image.specs.Encoding.{Layouts, AreLayouts, is_unlinked, is_unlinked_row, list_of, page_of, layout_of}
+use Rattle.sound_image.specs.Encoding.{Layouts, AreLayouts, is_unlinked, is_unlinked_row, bucket_list, page_of, layout_of}
 use Rattle.encoded_changes.specs.Changes.{PutsFirst, TakesOut}
 use Rattle.encoded_changes.proofs.Places.{list_by, page_same}
 use Rattle.encoded_changes.proofs.Inodes.{inode_in-set_other, inode_in-set_same}
@@ -24,7 +24,7 @@ wanted agino bucket unlinked = cond ((eqb (agino % BUCKETS) bucket) && unlinked)
 
 -- how often it does in the lists of a group
 abbrev pub Kept : Layouts → ℕ → Group → Type 0
-Kept layouts group chunks = (bucket agino : ℕ) → bucket < BUCKETS → times agino (list_of layouts group bucket) ≡ wanted agino bucket (is_unlinked (inode_in chunks agino))
+Kept layouts group chunks = (bucket agino : ℕ) → bucket < BUCKETS → times agino (bucket_list layouts group bucket) ≡ wanted agino bucket (is_unlinked (inode_in chunks agino))
 
 -- layouts of a table of which one group was replaced
 pub replaced : (t : Table) (layouts others : Layouts) (group : ℕ) (chunks : Group) → AreLayouts t layouts → group < length t.groups
@@ -43,7 +43,7 @@ replaced t layouts others group chunks are lt page groups kept =
       ];
       buckets = λ k bucket agino low below. elim (cases_eq k group) [
         | inl own ↦
-            subst (λ (x : ℕ). times agino (list_of others x bucket) ≡ wanted agino bucket (is_unlinked (inode_in (group_of u x) agino))) (sym own)
+            subst (λ (x : ℕ). times agino (bucket_list others x bucket) ≡ wanted agino bucket (is_unlinked (inode_in (group_at u x) agino))) (sym own)
             (kept bucket agino below ∙ ap (λ (cs : Group). wanted agino bucket (is_unlinked (inode_in cs agino))) (sym (own_group t group chunks lt)))
         | inr other ↦
             ap (times agino) (list_by layouts others k bucket (groups k other))
@@ -52,7 +52,7 @@ replaced t layouts others group chunks are lt page groups kept =
       ];
     }
 
-pub kept_before : (t : Table) (layouts : Layouts) (group : ℕ) → AreLayouts t layouts → group < length t.groups → Kept layouts group (group_of t group)
+pub kept_before : (t : Table) (layouts : Layouts) (group : ℕ) → AreLayouts t layouts → group < length t.groups → Kept layouts group (group_at t group)
 kept_before t layouts group are lt = λ bucket agino low. are.buckets group bucket agino lt low
 
 -- ---- what is wanted
@@ -81,7 +81,7 @@ unlinked_new chunks agino old new b at e = ap is_unlinked (inode_in-set_same chu
 
 -- each other inode stays
 kept_other : (layouts : Layouts) (group : ℕ) (chunks : Group) (agino : ℕ) (new : Inode) (bucket other : ℕ) → Kept layouts group chunks → bucket < BUCKETS → other ≢ agino
-    → times other (list_of layouts group bucket) ≡ wanted other bucket (is_unlinked (inode_in (set_inode chunks agino new) other))
+    → times other (bucket_list layouts group bucket) ≡ wanted other bucket (is_unlinked (inode_in (set_inode chunks agino new) other))
 kept_other layouts group chunks agino new bucket other kept low apart =
     kept bucket other low
     ∙ ap (λ (o : Option Inode). wanted other bucket (is_unlinked o)) (sym (inode_in-set_other chunks agino other new (λ e. apart (sym e))))
@@ -90,7 +90,7 @@ kept_same : (layouts : Layouts) (group : ℕ) (chunks : Group) (agino : ℕ) (ol
     → is_unlinked_row new.row ≡ is_unlinked_row old.row → Kept layouts group (set_inode chunks agino new)
 kept_same layouts group chunks agino old new kept at same bucket other low =
     elim (cases_eq other agino) [
-      | inl own ↦ subst (λ (a : ℕ). times a (list_of layouts group bucket) ≡ wanted a bucket (is_unlinked (inode_in (set_inode chunks agino new) a))) (sym own)
+      | inl own ↦ subst (λ (a : ℕ). times a (bucket_list layouts group bucket) ≡ wanted a bucket (is_unlinked (inode_in (set_inode chunks agino new) a))) (sym own)
           (kept bucket agino low ∙ ap (wanted agino bucket) (unlinked_old chunks agino old (is_unlinked_row old.row) at refl ∙ sym (unlinked_new chunks agino old new (is_unlinked_row old.row) at same)))
       | inr apart ↦ kept_other layouts group chunks agino new bucket other kept low apart
     ]
@@ -105,18 +105,18 @@ kept_put layouts others group chunks agino old new kept at was is puts bucket ot
     let wants : ℕ → ℕ = λ a. wanted a bucket (is_unlinked (inode_in (set_inode chunks agino new) a)) in
     elim (cases_eq bucket (agino % BUCKETS)) [
       | inl own ↦
-          let lists : list_of others group bucket ≡ agino ∷ list_of layouts group bucket =
-          subst (λ (k : ℕ). list_of others group k ≡ agino ∷ list_of layouts group k) (sym own) puts.own in
+          let lists : bucket_list others group bucket ≡ agino ∷ bucket_list layouts group bucket =
+          subst (λ (k : ℕ). bucket_list others group k ≡ agino ∷ bucket_list layouts group k) (sym own) puts.own in
           elim (cases_eq other agino) [
-            | inl same ↦ subst (λ (a : ℕ). times a (list_of others group bucket) ≡ wants a) (sym same)
-                (ap (times agino) lists ∙ times-here agino agino (list_of layouts group bucket) refl
+            | inl same ↦ subst (λ (a : ℕ). times a (bucket_list others group bucket) ≡ wants a) (sym same)
+                (ap (times agino) lists ∙ times-here agino agino (bucket_list layouts group bucket) refl
                 ∙ ap (λ (n : ℕ). 1 + n) (kept bucket agino low ∙ wanted_none agino bucket (is_unlinked (inode_in chunks agino)) (unlinked_old chunks agino old false at was))
                 ∙ sym (wanted_one agino bucket (is_unlinked (inode_in (set_inode chunks agino new) agino)) (sym own) (unlinked_new chunks agino old new true at is)))
-            | inr apart ↦ ap (times other) lists ∙ times_put other agino (list_of layouts group bucket) apart ∙ kept_other layouts group chunks agino new bucket other kept low apart
+            | inr apart ↦ ap (times other) lists ∙ times_put other agino (bucket_list layouts group bucket) apart ∙ kept_other layouts group chunks agino new bucket other kept low apart
           ]
       | inr elsewhere ↦
           elim (cases_eq other agino) [
-            | inl same ↦ subst (λ (a : ℕ). times a (list_of others group bucket) ≡ wants a) (sym same)
+            | inl same ↦ subst (λ (a : ℕ). times a (bucket_list others group bucket) ≡ wants a) (sym same)
                 (ap (times agino) (puts.lists bucket low elsewhere) ∙ kept bucket agino low
                 ∙ wanted_apart agino bucket (is_unlinked (inode_in chunks agino)) (λ e. elsewhere (sym e))
                 ∙ sym (wanted_apart agino bucket (is_unlinked (inode_in (set_inode chunks agino new) agino)) (λ e. elsewhere (sym e))))
@@ -149,17 +149,17 @@ kept_taken layouts others group chunks agino old new kept at is out bucket other
     let wants : ℕ → ℕ = λ a. wanted a bucket (is_unlinked (inode_in (set_inode chunks agino new) a)) in
     elim (cases_eq bucket (agino % BUCKETS)) [
       | inl own ↦
-          let lists : list_of others group bucket ≡ without (list_of layouts group bucket) agino =
-          subst (λ (k : ℕ). list_of others group k ≡ without (list_of layouts group k) agino) (sym own) out.own in
+          let lists : bucket_list others group bucket ≡ without (bucket_list layouts group bucket) agino =
+          subst (λ (k : ℕ). bucket_list others group k ≡ without (bucket_list layouts group k) agino) (sym own) out.own in
           elim (cases_eq other agino) [
-            | inl same ↦ subst (λ (a : ℕ). times a (list_of others group bucket) ≡ wants a) (sym same)
-                (ap (times agino) lists ∙ times_gone (list_of layouts group bucket) agino
+            | inl same ↦ subst (λ (a : ℕ). times a (bucket_list others group bucket) ≡ wants a) (sym same)
+                (ap (times agino) lists ∙ times_gone (bucket_list layouts group bucket) agino
                 ∙ sym (wanted_none agino bucket (is_unlinked (inode_in (set_inode chunks agino new) agino)) (unlinked_new chunks agino old new false at is)))
-            | inr apart ↦ ap (times other) lists ∙ times_left (list_of layouts group bucket) other agino apart ∙ kept_other layouts group chunks agino new bucket other kept low apart
+            | inr apart ↦ ap (times other) lists ∙ times_left (bucket_list layouts group bucket) other agino apart ∙ kept_other layouts group chunks agino new bucket other kept low apart
           ]
       | inr elsewhere ↦
           elim (cases_eq other agino) [
-            | inl same ↦ subst (λ (a : ℕ). times a (list_of others group bucket) ≡ wants a) (sym same)
+            | inl same ↦ subst (λ (a : ℕ). times a (bucket_list others group bucket) ≡ wants a) (sym same)
                 (ap (times agino) (out.lists bucket low elsewhere) ∙ kept bucket agino low
                 ∙ wanted_apart agino bucket (is_unlinked (inode_in chunks agino)) (λ e. elsewhere (sym e))
                 ∙ sym (wanted_apart agino bucket (is_unlinked (inode_in (set_inode chunks agino new) agino)) (λ e. elsewhere (sym e))))
@@ -211,29 +211,29 @@ kept_chunk layouts group chunks block kept gone bucket agino low =
 -- ---- the four changes
 
 pub layouts_same : (t : Table) (layouts : Layouts) (group agino : ℕ) (old new : Inode) → AreLayouts t layouts → group < length t.groups
-    → inode_in (group_of t group) agino ≡ Some old → is_unlinked_row new.row ≡ is_unlinked_row old.row
-    → AreLayouts (with_group t group (set_inode (group_of t group) agino new)) layouts
+    → inode_in (group_at t group) agino ≡ Some old → is_unlinked_row new.row ≡ is_unlinked_row old.row
+    → AreLayouts (with_group t group (set_inode (group_at t group) agino new)) layouts
 layouts_same t layouts group agino old new are lt at same =
-    replaced t layouts layouts group (set_inode (group_of t group) agino new) are lt refl (λ other apart. refl)
-    (kept_same layouts group (group_of t group) agino old new (kept_before t layouts group are lt) at same)
+    replaced t layouts layouts group (set_inode (group_at t group) agino new) are lt refl (λ other apart. refl)
+    (kept_same layouts group (group_at t group) agino old new (kept_before t layouts group are lt) at same)
 
 pub layouts_put : (t : Table) (layouts others : Layouts) (group agino : ℕ) (old new : Inode) → AreLayouts t layouts → group < length t.groups
-    → inode_in (group_of t group) agino ≡ Some old → is_unlinked_row old.row ≡ false → is_unlinked_row new.row ≡ true → PutsFirst layouts others group agino
-    → AreLayouts (with_group t group (set_inode (group_of t group) agino new)) others
+    → inode_in (group_at t group) agino ≡ Some old → is_unlinked_row old.row ≡ false → is_unlinked_row new.row ≡ true → PutsFirst layouts others group agino
+    → AreLayouts (with_group t group (set_inode (group_at t group) agino new)) others
 layouts_put t layouts others group agino old new are lt at was is puts =
-    replaced t layouts others group (set_inode (group_of t group) agino new) are lt puts.page puts.groups
-    (kept_put layouts others group (group_of t group) agino old new (kept_before t layouts group are lt) at was is puts)
+    replaced t layouts others group (set_inode (group_at t group) agino new) are lt puts.page puts.groups
+    (kept_put layouts others group (group_at t group) agino old new (kept_before t layouts group are lt) at was is puts)
 
 pub layouts_taken : (t : Table) (layouts others : Layouts) (group agino : ℕ) (old new : Inode) → AreLayouts t layouts → group < length t.groups
-    → inode_in (group_of t group) agino ≡ Some old → is_unlinked_row new.row ≡ false → TakesOut layouts others group agino
-    → AreLayouts (with_group t group (set_inode (group_of t group) agino new)) others
+    → inode_in (group_at t group) agino ≡ Some old → is_unlinked_row new.row ≡ false → TakesOut layouts others group agino
+    → AreLayouts (with_group t group (set_inode (group_at t group) agino new)) others
 layouts_taken t layouts others group agino old new are lt at is out =
-    replaced t layouts others group (set_inode (group_of t group) agino new) are lt out.page out.groups
-    (kept_taken layouts others group (group_of t group) agino old new (kept_before t layouts group are lt) at is out)
+    replaced t layouts others group (set_inode (group_at t group) agino new) are lt out.page out.groups
+    (kept_taken layouts others group (group_at t group) agino old new (kept_before t layouts group are lt) at is out)
 
 pub layouts_chunk : (t : Table) (layouts : Layouts) (group block : ℕ) → AreLayouts t layouts → group < length t.groups
-    → ((agino : ℕ) → start_of agino ≡ (new_chunk block).start → inode_in (group_of t group) agino ≡ None)
-    → AreLayouts (with_group t group (insert_chunk (new_chunk block) (group_of t group))) layouts
+    → ((agino : ℕ) → start_of agino ≡ (new_chunk block).start → inode_in (group_at t group) agino ≡ None)
+    → AreLayouts (with_group t group (insert_chunk (new_chunk block) (group_at t group))) layouts
 layouts_chunk t layouts group block are lt gone =
-    replaced t layouts layouts group (insert_chunk (new_chunk block) (group_of t group)) are lt refl (λ other apart. refl)
-    (kept_chunk layouts group (group_of t group) block (kept_before t layouts group are lt) gone)
+    replaced t layouts layouts group (insert_chunk (new_chunk block) (group_at t group)) are lt refl (λ other apart. refl)
+    (kept_chunk layouts group (group_at t group) block (kept_before t layouts group are lt) gone)

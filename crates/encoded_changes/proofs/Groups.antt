@@ -8,14 +8,14 @@ use Rattle.std.proofs.lemmas.List.Sums.{sum_by-cons}
 use Rattle.geometry.specs.declared.shape.Geometry.{Geometry}
 use Rattle.ag_header.specs.declared.agi.Agi.{Agi}
 use Rattle.inobt_leaf.specs.declared.chunk.ChunkRec.{ChunkRec}
-use Rattle.inobt_leaf.specs.Pages.{encoding as page_encoding}
+use Rattle.inobt_leaf.specs.Pages.{page_encoding}
 use Rattle.life_limits.specs.declared.TheConstants.{BUCKETS, CHUNK_INODES, FIRST_DATA_BLOCK}
 use Rattle.life_table.specs.declared.table.Chunk.{Chunk}
 use Rattle.life_table.specs.Table.{Group}
 use Rattle.life_table.specs.Space.{times, used, is_free_block}
 use Rattle.sound_image.specs.Places.{sector_in}
 use Rattle.sound_image.specs.Rules.{free_set}
-use Rattle.sound_image.specs.Encoding.{Layouts, head_of, page_of, list_of, header_for, page_place, page_bytes, free_count, record_of}
+use Rattle.sound_image.specs.Encoding.{Layouts, head_of, page_of, bucket_list, header_for, page_place, page_bytes, free_count, chunk_record}
 use Rattle.encoded_changes.proofs.Places.{is_bitmap, is_page}
 
 pub map_same : {X Y : Type 0} (f g : X → Y) (xs : List X) → ((x : X) → f x ≡ g x) → map f xs ≡ map g xs
@@ -23,11 +23,11 @@ map_same f g [] each = refl
 map_same f g (x ∷ xs) each = ap (λ y. y ∷ map f xs) (each x) ∙ ap (λ ys. g x ∷ ys) (map_same f g xs each)
 
 -- the header and the page say of the chunks what their records do
-free_sum : (group : Group) → sum_by (λ (chunk : ChunkRec). chunk.free) (map record_of group) ≡ sum_by (λ (chunk : Chunk). free_count chunk.inodes) group
-unfolding record_of
+free_sum : (group : Group) → sum_by (λ (chunk : ChunkRec). chunk.free) (map chunk_record group) ≡ sum_by (λ (chunk : Chunk). free_count chunk.inodes) group
+unfolding chunk_record
 free_sum [] = refl
 free_sum (c ∷ cs) =
-    sum_by-cons (λ (chunk : ChunkRec). chunk.free) (record_of c) (map record_of cs) ∙ ap (λ (n : ℕ). free_count c.inodes + n) (free_sum cs)
+    sum_by-cons (λ (chunk : ChunkRec). chunk.free) (chunk_record c) (map chunk_record cs) ∙ ap (λ (n : ℕ). free_count c.inodes + n) (free_sum cs)
     ∙ sym (sum_by-cons (λ (chunk : Chunk). free_count chunk.inodes) c cs)
 
 abbrev made : Geometry → ℕ → ℕ → List ℕ → ℕ → ℕ → Agi
@@ -35,22 +35,22 @@ made g group page heads count free =
     record { group = group; blocks = g.blocks; count = CHUNK_INODES * count; root = page; level = 1; free = free; heads = heads; uuid = g.uuid }
 
 header_of_records : (g : Geometry) (layouts : Layouts) (group : ℕ) (chunks : Group) → header_for g group chunks layouts
-    ≡ made g group (page_of layouts group) (map (λ bucket. head_of (list_of layouts group bucket)) (range_with_len 0 BUCKETS)) (length (map record_of chunks)) (sum_by (λ (chunk : ChunkRec). chunk.free) (map record_of chunks))
+    ≡ made g group (page_of layouts group) (map (λ bucket. head_of (bucket_list layouts group bucket)) (range_with_len 0 BUCKETS)) (length (map chunk_record chunks)) (sum_by (λ (chunk : ChunkRec). chunk.free) (map chunk_record chunks))
 unfolding header_for
 header_of_records g layouts group chunks =
-    let heads : List ℕ = map (λ bucket. head_of (list_of layouts group bucket)) (range_with_len 0 BUCKETS) in
-    ap (λ (n : ℕ). made g group (page_of layouts group) heads n (sum_by (λ (chunk : Chunk). free_count chunk.inodes) chunks)) (sym (length-map chunks record_of))
-    ∙ ap (λ (n : ℕ). made g group (page_of layouts group) heads (length (map record_of chunks)) n) (sym (free_sum chunks))
+    let heads : List ℕ = map (λ bucket. head_of (bucket_list layouts group bucket)) (range_with_len 0 BUCKETS) in
+    ap (λ (n : ℕ). made g group (page_of layouts group) heads n (sum_by (λ (chunk : Chunk). free_count chunk.inodes) chunks)) (sym (length-map chunks chunk_record))
+    ∙ ap (λ (n : ℕ). made g group (page_of layouts group) heads (length (map chunk_record chunks)) n) (sym (free_sum chunks))
 
-pub same_header : (g : Geometry) (layouts : Layouts) (group : ℕ) (chunks next : Group) → map record_of next ≡ map record_of chunks
+pub same_header : (g : Geometry) (layouts : Layouts) (group : ℕ) (chunks next : Group) → map chunk_record next ≡ map chunk_record chunks
     → header_for g group next layouts ≡ header_for g group chunks layouts
 same_header g layouts group chunks next same =
-    let heads : List ℕ = map (λ bucket. head_of (list_of layouts group bucket)) (range_with_len 0 BUCKETS) in
+    let heads : List ℕ = map (λ bucket. head_of (bucket_list layouts group bucket)) (range_with_len 0 BUCKETS) in
     header_of_records g layouts group next
     ∙ ap (λ (rs : List ChunkRec). made g group (page_of layouts group) heads (length rs) (sum_by (λ (chunk : ChunkRec). chunk.free) rs)) same
     ∙ sym (header_of_records g layouts group chunks)
 
-pub same_page : (g : Geometry) (layouts : Layouts) (group : ℕ) (chunks next : Group) → map record_of next ≡ map record_of chunks
+pub same_page : (g : Geometry) (layouts : Layouts) (group : ℕ) (chunks next : Group) → map chunk_record next ≡ map chunk_record chunks
     → page_bytes g layouts group next ≡ page_bytes g layouts group chunks
 unfolding page_bytes
 same_page g layouts group chunks next same = ap (λ (rs : List ChunkRec). page_encoding rs group (sector_in g group (page_place layouts group)) g.uuid) same

@@ -14,7 +14,7 @@ use Rattle.life_table.specs.declared.table.Chunk.{Chunk}
 use Rattle.life_table.specs.Table.{Group, inode_in, set_inode, start_of}
 use Rattle.life_table.specs.Space.{times, chunk_blocks, row_blocks, inode_blocks, used}
 use Rattle.sound_image.specs.Places.{part}
-use Rattle.sound_image.specs.Encoding.{Layouts, inode_sector, page_place, free_count, mask_of, record_of}
+use Rattle.sound_image.specs.Encoding.{Layouts, inode_sector, page_place, free_count, mask_of, chunk_record}
 use Rattle.encoded_changes.specs.Carry.{Stays}
 use Rattle.encoded_changes.specs.Changes.{HaveSameBlocks, IsOfBitmap, IsOfPage}
 use Rattle.encoded_changes.proofs.Places.{same_metadata}
@@ -85,25 +85,25 @@ count_true (x ∷ xs) =
 abbrev record_made : ℕ → List Bool → ChunkRec
 record_made start bits = record { start = start; free = count_by (λ (b : Bool). b) bits; mask = number_of_bits bits }
 
-record_by : (chunk : Chunk) → record_of chunk ≡ record_made chunk.start (map unused chunk.inodes)
-unfolding record_of mask_of
+record_by : (chunk : Chunk) → chunk_record chunk ≡ record_made chunk.start (map unused chunk.inodes)
+unfolding chunk_record mask_of
 record_by chunk = ap (λ (n : ℕ). record { start = chunk.start; free = n; mask = number_of_bits (map unused chunk.inodes) }) (count_true chunk.inodes)
 
 record_same : (chunk : Chunk) (i : ℕ) (old new : Inode) → slice_get chunk.inodes i ≡ Some old → unused new ≡ unused old
-    → record_of (record { start = chunk.start; inodes = slice_set chunk.inodes i new }) ≡ record_of chunk
+    → chunk_record (record { start = chunk.start; inodes = slice_set chunk.inodes i new }) ≡ chunk_record chunk
 record_same chunk i old new at same =
     record_by (record { start = chunk.start; inodes = slice_set chunk.inodes i new })
     ∙ ap (record_made chunk.start) (unused_same chunk.inodes i old new at same)
     ∙ sym (record_by chunk)
 
-records_same : (group : Group) (agino : ℕ) (old new : Inode) → inode_in group agino ≡ Some old → unused new ≡ unused old → map record_of (set_inode group agino new) ≡ map record_of group
+records_same : (group : Group) (agino : ℕ) (old new : Inode) → inode_in group agino ≡ Some old → unused new ≡ unused old → map chunk_record (set_inode group agino new) ≡ map chunk_record group
 unfolding inode_in set_inode
 records_same [] agino old new at same = refl
 records_same (chunk ∷ chunks) agino old new at same =
     elim (eqb chunk.start (start_of agino)) as (λ c. cond c (slice_get chunk.inodes (agino % CHUNK_INODES)) (inode_in chunks agino) ≡ Some old
-    → map record_of (cond c (record { start = chunk.start; inodes = slice_set chunk.inodes (agino % CHUNK_INODES) new } ∷ chunks) (chunk ∷ set_inode chunks agino new)) ≡ map record_of (chunk ∷ chunks)) [
-      | true ↦ λ here. ap (λ (r : ChunkRec). r ∷ map record_of chunks) (record_same chunk (agino % CHUNK_INODES) old new here same)
-      | false ↦ λ here. ap (λ (rs : List ChunkRec). record_of chunk ∷ rs) (records_same chunks agino old new here same)
+    → map chunk_record (cond c (record { start = chunk.start; inodes = slice_set chunk.inodes (agino % CHUNK_INODES) new } ∷ chunks) (chunk ∷ set_inode chunks agino new)) ≡ map chunk_record (chunk ∷ chunks)) [
+      | true ↦ λ here. ap (λ (r : ChunkRec). r ∷ map chunk_record chunks) (record_same chunk (agino % CHUNK_INODES) old new here same)
+      | false ↦ λ here. ap (λ (rs : List ChunkRec). chunk_record chunk ∷ rs) (records_same chunks agino old new here same)
     ] at
 
 -- ---- the blocks

@@ -7,26 +7,26 @@ use Rattle.std.proofs.lemmas.Option.{same_Some}
 use Rattle.std.proofs.lemmas.List.Elements.{recursion_from_All}
 use Rattle.life_bytes.specs.declared.sector.Sector.{Sector}
 use Rattle.geometry.specs.declared.shape.Geometry.{Geometry}
-use Rattle.log_image.specs.Overlay.{overlaid}
+use Rattle.log_image.specs.Overlay.{overlaid, homes}
 use Rattle.log_record.specs.declared.image.Image.{Image}
 use Rattle.life_table.specs.declared.table.Table.{Table}
-use Rattle.life_table.specs.Table.{Group, group_of, with_group}
+use Rattle.life_table.specs.Table.{Group, group_at, with_group}
 use Rattle.sound_image.specs.Places.{sector_in}
 use Rattle.sound_image.specs.Encoding.{Layouts, CanEncode, layout_of, metadata, encoded}
-use Rattle.encoded_changes.specs.Carry.{homes, AreImagesOf, IsOfGroup, CarryGroup}
+use Rattle.encoded_changes.specs.Carry.{AreImagesOf, IsOfGroup, CarryGroup}
 use Rattle.encoded_changes.proofs.Overlaid.{of_one_group, sector_of, carried}
 use Rattle.encoded_changes.proofs.Rows.{changes_only, own_group}
 
 pub carried_in_group : (g : Geometry) (t : Table) (layouts others : Layouts) (image : List Sector) (group : ℕ) (next : Group) (images : List Image)
     → CanEncode g t layouts image → group < g.groups → ((other : ℕ) → other ≢ group → layout_of others other ≡ layout_of layouts other)
-    → CarryGroup g group layouts (group_of t group) others next images
+    → CarryGroup g group layouts (group_at t group) others next images
     → overlaid (encoded g t layouts image) images ≡ encoded g (with_group t group next) others image
 carried_in_group g t layouts others image group next images can lt same carry =
     let u : Table = with_group t group next in
-    let own : group_of u group ≡ next = own_group t group next (omega (arith, lt, can.groups)) in
+    let own : group_at u group ≡ next = own_group t group next (omega (arith, lt, can.groups)) in
     carried g t u layouts others image images can.size
     (of_one_group g t u layouts others group images lt (changes_only t layouts others group next same)
-    (subst (λ (cs : Group). CarryGroup g group layouts (group_of t group) others cs images) (sym own) carry))
+    (subst (λ (cs : Group). CarryGroup g group layouts (group_at t group) others cs images) (sym own) carry))
 
 -- ---- ascending lists with the same members
 

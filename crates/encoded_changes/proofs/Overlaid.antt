@@ -13,14 +13,14 @@ use Rattle.std.proofs.Math.Nat.{div-add-mod, div-lt_iff_lt-mul, mod-lt}
 use Rattle.life_bytes.specs.declared.sector.Sector.{Sector}
 use Rattle.geometry.specs.declared.shape.Geometry.{Geometry}
 use Rattle.geometry.specs.Places.{group_sectors}
-use Rattle.log_image.specs.Overlay.{overlaid, newest}
+use Rattle.log_image.specs.Overlay.{overlaid, newest, homes}
 use Rattle.log_image.specs.OverlayLaws.{length-overlaid, get_or-overlaid}
 use Rattle.log_record.specs.declared.image.Image.{Image}
 use Rattle.life_table.specs.declared.table.Table.{Table}
-use Rattle.life_table.specs.Table.{group_of}
+use Rattle.life_table.specs.Table.{group_at}
 use Rattle.sound_image.specs.Places.{bytes_at, sector_in}
 use Rattle.sound_image.specs.Encoding.{Layouts, metadata, encoded, encoded_bytes}
-use Rattle.encoded_changes.specs.Carry.{homes, ChangesOnly, IsOfGroup, IsOfTable, Stays, Carry, CarryGroup}
+use Rattle.encoded_changes.specs.Carry.{ChangesOnly, IsOfGroup, IsImageOfTable, Stays, Carry, CarryGroup}
 use Rattle.encoded_changes.proofs.Places.{elsewhere}
 
 -- ---- the sectors of an image that encodes a table
@@ -43,14 +43,14 @@ in_image : (groups size group place : ℕ) → group < groups → place < size �
 in_image groups size group place lt low = let all : (group + 1) * size ≤ groups * size = grind arith in omega arith
 
 pub in_group : (g : Geometry) (t : Table) (layouts : Layouts) (image : List Sector) (group place : ℕ) → group < g.groups → place < group_sectors g
-    → encoded_bytes g t layouts image (sector_in g group place) ≡ unwrap_or (metadata g layouts group (group_of t group) place) (bytes_at image (sector_in g group place))
+    → encoded_bytes g t layouts image (sector_in g group place) ≡ unwrap_or (metadata g layouts group (group_at t group) place) (bytes_at image (sector_in g group place))
 unfolding encoded_bytes sector_in
 in_group g t layouts image group place lt low =
     let within : group * group_sectors g + place < g.groups * group_sectors g = in_image g.groups (group_sectors g) group place lt low in
     let old : List ℕ = bytes_at image (group * group_sectors g + place) in
     cond-true (ltb (group * group_sectors g + place) (g.groups * group_sectors g)) _ _ (lt-ltb (group * group_sectors g + place) (g.groups * group_sectors g) within)
-    ∙ ap (λ (x : ℕ). unwrap_or (metadata g layouts x (group_of t x) ((group * group_sectors g + place) % group_sectors g)) old) (div-mul-add group (group_sectors g) place low)
-    ∙ ap (λ (x : ℕ). unwrap_or (metadata g layouts group (group_of t group) x) old) (mod-mul-add group (group_sectors g) place low)
+    ∙ ap (λ (x : ℕ). unwrap_or (metadata g layouts x (group_at t x) ((group * group_sectors g + place) % group_sectors g)) old) (div-mul-add group (group_sectors g) place low)
+    ∙ ap (λ (x : ℕ). unwrap_or (metadata g layouts group (group_at t group) x) old) (mod-mul-add group (group_sectors g) place low)
 
 behind : (g : Geometry) (t : Table) (layouts : Layouts) (image : List Sector) (s : ℕ) → g.groups * group_sectors g ≤ s → encoded_bytes g t layouts image s ≡ bytes_at image s
 unfolding encoded_bytes
@@ -93,7 +93,7 @@ newest-has home (image ∷ images) (suc k, lt, at) e =
 -- ---- the sectors after the change
 
 -- one that an image has
-carried_here : (g : Geometry) (u : Table) (others : Layouts) (image : List Sector) (home : ℕ) (sector : Sector) → IsOfTable g others u (record { home = home; sector = sector })
+carried_here : (g : Geometry) (u : Table) (others : Layouts) (image : List Sector) (home : ℕ) (sector : Sector) → IsImageOfTable g others u (record { home = home; sector = sector })
     → encoded_bytes g u others image home ≡ sector.bytes
 carried_here g u others image home sector (group, lt, is) =
     ap (encoded_bytes g u others image) is.home
@@ -142,7 +142,7 @@ each_sector g t u layouts others image images s carry =
     elim (newest s images) as (λ (o : Option Sector). newest s images ≡ o → unwrap_or o (sector_of (encoded_bytes g t layouts image s)) ≡ sector_of (encoded_bytes g u others image s)) [
       | None ↦ λ is. ap sector_of (unmet g t u layouts others image images s carry is)
       | Some sector ↦ λ is. ap sector_of (sym (carried_here g u others image s sector
-          (newest-is (IsOfTable g others u) s images sector (recursion_from_All (IsOfTable g others u) images carry.right) is)))
+          (newest-is (IsImageOfTable g others u) s images sector (recursion_from_All (IsImageOfTable g others u) images carry.right) is)))
     ] refl
 
 pub carried : (g : Geometry) (t u : Table) (layouts others : Layouts) (image : List Sector) (images : List Image) → g.groups * group_sectors g ≤ length image → Carry g t layouts u others images
@@ -162,12 +162,12 @@ carried g t u layouts others image images size carry =
     ∙ sym (at_encoded g u others image s d within))
 
 pub of_one_group : (g : Geometry) (t u : Table) (layouts others : Layouts) (group : ℕ) (images : List Image) → group < g.groups → ChangesOnly group t layouts u others
-    → CarryGroup g group layouts (group_of t group) others (group_of u group) images → Carry g t layouts u others images
+    → CarryGroup g group layouts (group_at t group) others (group_at u group) images → Carry g t layouts u others images
 of_one_group g t u layouts others group images lt only carry =
     record {
-      right = All-weaker (IsOfGroup g others group (group_of u group)) (IsOfTable g others u) (λ image is. (group, lt, is)) images carry.right;
+      right = All-weaker (IsOfGroup g others group (group_at u group)) (IsImageOfTable g others u) (λ image is. (group, lt, is)) images carry.right;
       whole = λ other place below low. elim (cases_eq other group) [
-        | inl same ↦ subst (λ (x : ℕ). Stays g x layouts (group_of t x) others (group_of u x) place ⊎ Contains (homes images) (sector_in g x place)) (sym same) (carry.whole place low)
-        | inr apart ↦ inl (elsewhere g layouts others other (group_of t other) (group_of u other) place (only.layouts_of other apart) (only.chunks other apart))
+        | inl same ↦ subst (λ (x : ℕ). Stays g x layouts (group_at t x) others (group_at u x) place ⊎ Contains (homes images) (sector_in g x place)) (sym same) (carry.whole place low)
+        | inr apart ↦ inl (elsewhere g layouts others other (group_at t other) (group_at u other) place (only.layouts_of other apart) (only.chunks other apart))
       ];
     }

@@ -6,17 +6,17 @@ use Rattle.std.proofs.lemmas.Bool.{eqb-true}
 use Rattle.std.specs.Option.{option_map}
 use Rattle.life_limits.specs.declared.TheConstants.{BLOCK_SECTORS, BUCKETS, CHUNK_INODES}
 use Rattle.geometry.specs.declared.shape.Geometry.{Geometry}
-use Rattle.ag_header.specs.Headers.{encoding as header_encoding}
+use Rattle.ag_header.specs.Headers.{header_encoding}
 use Rattle.ag_header.specs.declared.agi.Agi.{Agi}
-use Rattle.inode_core.specs.Cores.{encoding as core_encoding}
-use Rattle.inobt_leaf.specs.Pages.{encoding as page_encoding}
+use Rattle.inode_core.specs.Cores.{core_encoding}
+use Rattle.inobt_leaf.specs.Pages.{page_encoding}
 use Rattle.life_table.specs.declared.table.Chunk.{Chunk}
 use Rattle.free_map.specs.Bitmap.{bitmap}
 use Rattle.life_table.specs.declared.table.Inode.{Inode}
 use Rattle.life_table.specs.Table.{Group, inode_in}
 use Rattle.sound_image.specs.Places.{part, sector_in, number_in}
 use Rattle.sound_image.specs.Rules.{free_set}
-use Rattle.sound_image.specs.Encoding.{Layout, Layouts, layout_of, page_of, list_of, header_for, inode_sector, page_place, page_bytes, metadata, head_of, next_in, free_count, record_of, core_for, fork_for}
+use Rattle.sound_image.specs.Encoding.{Layout, Layouts, layout_of, page_of, bucket_list, header_for, inode_sector, page_place, page_bytes, metadata, head_of, next_in, free_count, chunk_record, core_for, fork_for}
 
 -- a header, by what changes in it
 abbrev pub header_made : Geometry → ℕ → Group → ℕ → List ℕ → Agi
@@ -80,24 +80,24 @@ same_metadata g layouts others group chunks next place page header map_part leaf
 -- the header, the page and an inode, by the layout of the group
 pub header_by : (g : Geometry) (layouts others : Layouts) (group : ℕ) (chunks : Group) → layout_of others group ≡ layout_of layouts group
     → header_for g group chunks others ≡ header_for g group chunks layouts
-unfolding header_for page_of list_of
+unfolding header_for page_of bucket_list
 header_by g layouts others group chunks same = ap (λ (l : Layout). header_made g group chunks l.page (map (λ bucket. head_of (get_or l.buckets bucket [])) (range_with_len 0 BUCKETS))) same
 
 pub page_by : (g : Geometry) (layouts others : Layouts) (group : ℕ) (chunks : Group) → page_of others group ≡ page_of layouts group
     → page_bytes g others group chunks ≡ page_bytes g layouts group chunks
 unfolding page_bytes page_place
-page_by g layouts others group chunks same = ap (λ (n : ℕ). page_encoding (map record_of chunks) group (sector_in g group (BLOCK_SECTORS * n)) g.uuid) same
+page_by g layouts others group chunks same = ap (λ (n : ℕ). page_encoding (map chunk_record chunks) group (sector_in g group (BLOCK_SECTORS * n)) g.uuid) same
 
 pub inode_by : (g : Geometry) (layouts others : Layouts) (group agino : ℕ) (inode : Option Inode)
-    → next_in (list_of others group (agino % BUCKETS)) agino ≡ next_in (list_of layouts group (agino % BUCKETS)) agino
+    → next_in (bucket_list others group (agino % BUCKETS)) agino ≡ next_in (bucket_list layouts group (agino % BUCKETS)) agino
     → option_map (inode_sector g others group agino) inode ≡ option_map (inode_sector g layouts group agino) inode
 unfolding inode_sector
 inode_by g layouts others group agino None same = refl
 inode_by g layouts others group agino (Some inode) same =
     ap (λ (n : ℕ). Some (core_encoding (core_for inode.generation inode.row n) (number_in group agino) g.uuid (fork_for group inode.row))) same
 
-pub list_by : (layouts others : Layouts) (group bucket : ℕ) → layout_of others group ≡ layout_of layouts group → list_of others group bucket ≡ list_of layouts group bucket
-unfolding list_of
+pub list_by : (layouts others : Layouts) (group bucket : ℕ) → layout_of others group ≡ layout_of layouts group → bucket_list others group bucket ≡ bucket_list layouts group bucket
+unfolding bucket_list
 list_by layouts others group bucket same = ap (λ (l : Layout). get_or l.buckets bucket []) same
 
 pub page_same : (layouts others : Layouts) (group : ℕ) → layout_of others group ≡ layout_of layouts group → page_of others group ≡ page_of layouts group

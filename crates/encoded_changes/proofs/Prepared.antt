@@ -7,7 +7,7 @@ use Rattle.std.proofs.lemmas.Option.{none-some, same_Some}
 use Rattle.life_limits.specs.declared.TheConstants.{BLOCK_SECTORS, CHUNK_INODES, FIRST_DATA_BLOCK, MAX_CHUNKS}
 use Rattle.life_table.specs.declared.table.Chunk.{Chunk}
 use Rattle.life_table.specs.declared.table.Table.{Table}
-use Rattle.life_table.specs.Table.{Group, group_of, inode_in, start_of, with_group}
+use Rattle.life_table.specs.Table.{Group, group_at, inode_in, start_of, with_group}
 use Rattle.life_table.specs.Space.{times, chunk_blocks, used, chunk_place, begins_run, is_free_block, lowest_key, new_chunk, prepared, with_chunk}
 use Rattle.life_table.specs.Legal.{prepare}
 use Rattle.sound_image.specs.Encoding.{Layouts, AreLayouts}
@@ -68,20 +68,20 @@ new_start : (block : ℕ) → (new_chunk block).start ≡ block * BLOCK_SECTORS
 unfolding new_chunk
 new_start block = refl
 
-unchanged : (t : Table) (layouts : Layouts) (group : ℕ) → AreLayouts t layouts → group < length t.groups → AreLayouts (with_group t group (group_of t group)) layouts
-unchanged t layouts group are lt = replaced t layouts layouts group (group_of t group) are lt refl (λ other apart. refl) (kept_before t layouts group are lt)
+unchanged : (t : Table) (layouts : Layouts) (group : ℕ) → AreLayouts t layouts → group < length t.groups → AreLayouts (with_group t group (group_at t group)) layouts
+unchanged t layouts group are lt = replaced t layouts layouts group (group_at t group) are lt refl (λ other apart. refl) (kept_before t layouts group are lt)
 
-with_place : (t : Table) (layouts : Layouts) (group : ℕ) (place : Option ℕ) → AreLayouts t layouts → group < length t.groups → chunk_place t.blocks (group_of t group) ≡ place
-    → AreLayouts (with_group t group (with_chunk (group_of t group) place)) layouts
+with_place : (t : Table) (layouts : Layouts) (group : ℕ) (place : Option ℕ) → AreLayouts t layouts → group < length t.groups → chunk_place t.blocks (group_at t group) ≡ place
+    → AreLayouts (with_group t group (with_chunk (group_at t group) place)) layouts
 with_place t layouts group None are lt e = unchanged t layouts group are lt
 with_place t layouts group (Some block) are lt e =
     layouts_chunk t layouts group block are lt
-    (λ agino at. no_inode block agino (group_of t group) (place_free t.blocks (group_of t group) block e) (at ∙ new_start block))
+    (λ agino at. no_inode block agino (group_at t group) (place_free t.blocks (group_at t group) block e) (at ∙ new_start block))
 
 pub layouts_prepared : (t : Table) (layouts : Layouts) (group : ℕ) → AreLayouts t layouts → group < length t.groups → AreLayouts (prepare t group) layouts
 unfolding prepared
 layouts_prepared t layouts group are lt =
-    elim (is_some (lowest_key group (group_of t group))) as (λ c. AreLayouts (with_group t group (cond c (group_of t group) (with_chunk (group_of t group) (chunk_place t.blocks (group_of t group))))) layouts) [
+    elim (is_some (lowest_key group (group_at t group))) as (λ c. AreLayouts (with_group t group (cond c (group_at t group) (with_chunk (group_at t group) (chunk_place t.blocks (group_at t group))))) layouts) [
       | true ↦ unchanged t layouts group are lt
-      | false ↦ with_place t layouts group (chunk_place t.blocks (group_of t group)) are lt refl
+      | false ↦ with_place t layouts group (chunk_place t.blocks (group_at t group)) are lt refl
     ]

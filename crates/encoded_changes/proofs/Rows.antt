@@ -8,10 +8,10 @@ use Rattle.geometry.specs.declared.shape.Geometry.{Geometry}
 use Rattle.agi_buckets.specs.Buckets.{put_first, take_out, without}
 use Rattle.life_table.specs.declared.table.Inode.{Inode}
 use Rattle.life_table.specs.declared.table.Table.{Table}
-use Rattle.life_table.specs.Table.{Group, group_of, inode_in, set_inode, with_group}
+use Rattle.life_table.specs.Table.{Group, group_at, inode_in, set_inode, with_group}
 use Rattle.life_table.specs.WellFormed.{IsTable}
 use Rattle.sound_image.specs.Places.{header_place}
-use Rattle.sound_image.specs.Encoding.{Layout, Layouts, AreLayouts, CanEncode, head_of, layout_of, list_of, next_in, page_of}
+use Rattle.sound_image.specs.Encoding.{Layout, Layouts, AreLayouts, CanEncode, head_of, layout_of, bucket_list, next_in, page_of}
 use Rattle.encoded_changes.specs.Carry.{ChangesOnly, Stays}
 use Rattle.encoded_changes.specs.Changes.{HaveSameBlocks, IsOfBitmap, IsOfPage, PutsFirst, TakesOut, put_in, taken_from, with_buckets}
 use Rattle.encoded_changes.proofs.Inodes.{inode_touches}
@@ -32,8 +32,8 @@ row_put g layouts others group chunks agino old new place puts at apart no_heade
 
 pub row_taken : (g : Geometry) (layouts others : Layouts) (group : ℕ) (chunks : Group) (agino : ℕ) (old new : Inode) (place : ℕ)
     → TakesOut layouts others group agino → inode_in chunks agino ≡ Some old → place ≢ agino
-    → (place ≢ header_place) ⊎ (head_of (list_of layouts group (agino % BUCKETS)) ≢ agino)
-    → next_in (list_of layouts group (agino % BUCKETS)) place ≢ agino
+    → (place ≢ header_place) ⊎ (head_of (bucket_list layouts group (agino % BUCKETS)) ≢ agino)
+    → next_in (bucket_list layouts group (agino % BUCKETS)) place ≢ agino
     → (is_none new.row ≡ is_none old.row) ⊎ ((place ≢ header_place) × ¬ IsOfPage layouts group place)
     → HaveSameBlocks old new ⊎ ¬ IsOfBitmap place
     → Stays g group layouts chunks others (set_inode chunks agino new) place
@@ -43,10 +43,10 @@ row_taken g layouts others group chunks agino old new place out at apart header 
 
 -- ---- a group that is replaced
 
-pub own_group : (t : Table) (group : ℕ) (chunks : Group) → group < length t.groups → group_of (with_group t group chunks) group ≡ chunks
+pub own_group : (t : Table) (group : ℕ) (chunks : Group) → group < length t.groups → group_at (with_group t group chunks) group ≡ chunks
 own_group t group chunks lt = get_or-set_same t.groups group chunks [] lt
 
-pub other_group : (t : Table) (group other : ℕ) (chunks : Group) → other ≢ group → group_of (with_group t group chunks) other ≡ group_of t other
+pub other_group : (t : Table) (group other : ℕ) (chunks : Group) → other ≢ group → group_at (with_group t group chunks) other ≡ group_at t other
 other_group t group other chunks apart = get_or-set_other t.groups group other chunks [] apart
 
 pub changes_only : (t : Table) (layouts others : Layouts) (group : ℕ) (chunks : Group) → ((other : ℕ) → other ≢ group → layout_of others other ≡ layout_of layouts other)
@@ -76,12 +76,12 @@ page_own : (layouts : Layouts) (group : ℕ) (buckets : List (List ℕ)) → gro
 unfolding page_of
 page_own layouts group buckets lt = ap (λ (l : Layout). l.page) (layout_own layouts group buckets lt)
 
-list_own : (layouts : Layouts) (group bucket : ℕ) (buckets : List (List ℕ)) → group < length layouts → list_of (with_buckets layouts group buckets) group bucket ≡ get_or buckets bucket []
-unfolding list_of
+list_own : (layouts : Layouts) (group bucket : ℕ) (buckets : List (List ℕ)) → group < length layouts → bucket_list (with_buckets layouts group buckets) group bucket ≡ get_or buckets bucket []
+unfolding bucket_list
 list_own layouts group bucket buckets lt = ap (λ (l : Layout). get_or l.buckets bucket []) (layout_own layouts group buckets lt)
 
-list_was : (layouts : Layouts) (group bucket : ℕ) → get_or (layout_of layouts group).buckets bucket [] ≡ list_of layouts group bucket
-unfolding list_of
+list_was : (layouts : Layouts) (group bucket : ℕ) → get_or (layout_of layouts group).buckets bucket [] ≡ bucket_list layouts group bucket
+unfolding bucket_list
 list_was layouts group bucket = refl
 
 pub put_is : (layouts : Layouts) (group agino : ℕ) → group < length layouts → length (layout_of layouts group).buckets ≡ BUCKETS

@@ -10,10 +10,10 @@ use Rattle.life_limits.specs.declared.TheConstants.{BLOCK_SECTORS, CHUNK_INODES,
 use Rattle.life_bytes.specs.declared.sector.Sector.{Sector}
 use Rattle.geometry.specs.declared.shape.Geometry.{Geometry}
 use Rattle.geometry.specs.Places.{group_sectors}
-use Rattle.ag_header.specs.Headers.{encoding as header_encoding}
+use Rattle.ag_header.specs.Headers.{header_encoding}
 use Rattle.life_table.specs.declared.table.Inode.{Inode}
 use Rattle.life_table.specs.declared.table.Table.{Table}
-use Rattle.life_table.specs.Table.{Group, group_of, inode_in, start_of}
+use Rattle.life_table.specs.Table.{Group, group_at, inode_in, start_of}
 use Rattle.life_table.specs.Space.{times, used}
 use Rattle.life_table.specs.WellFormed.{IsChunk, IsDataBlock, IsGroup}
 use Rattle.sound_image.specs.Places.{part}
@@ -79,8 +79,8 @@ in_range blocks (c ∷ cs) agino inode is data_blocks e =
     ]
 
 pub has_place : (g : Geometry) (t : Table) (layouts : Layouts) (image : List Sector) (group agino : ℕ) (inode : Inode) → CanEncode g t layouts image → group < g.groups
-    → inode_in (group_of t group) agino ≡ Some inode → (FIRST_DATA_BLOCK * BLOCK_SECTORS ≤ agino) × (agino < group_sectors g)
+    → inode_in (group_at t group) agino ≡ Some inode → (FIRST_DATA_BLOCK * BLOCK_SECTORS ≤ agino) × (agino < group_sectors g)
 has_place g t layouts image group agino inode can lt found =
-    let is : IsGroup t.blocks (group_of t group) = All-from_recursion (IsGroup t.blocks) t.groups can.table.groups group [] (omega (arith, lt, can.groups)) in
-    let range = in_range t.blocks (group_of t group) agino inode is.chunks is.data_blocks found in
+    let is : IsGroup t.blocks (group_at t group) = All-from_recursion (IsGroup t.blocks) t.groups can.table.groups group [] (omega (arith, lt, can.groups)) in
+    let range = in_range t.blocks (group_at t group) agino inode is.chunks is.data_blocks found in
     (range.0, omega (arith, range.1, can.blocks))

@@ -13,7 +13,7 @@ use Rattle.life_table.specs.declared.key.Key.{Key}
 use Rattle.life_table.specs.declared.types.Row.{Row}
 use Rattle.life_table.specs.declared.table.Inode.{Inode}
 use Rattle.life_table.specs.declared.table.Table.{Table}
-use Rattle.life_table.specs.Table.{Group, group_of, in_use, inode_in, inode_of, row_in_life, row_of, set_inode, with_group, with_inode}
+use Rattle.life_table.specs.Table.{Group, group_at, in_use, inode_in, inode_of, row_in_life, row_of, set_inode, with_group, with_inode}
 use Rattle.life_table.specs.Space.{prepared}
 use Rattle.life_table.specs.Legal.{prepare}
 use Rattle.life_table.specs.WellFormed.{IsTable}
@@ -50,7 +50,7 @@ no_inode : (agino : ℕ) (inode : Inode) → inode_in [] agino ≡ Some inode �
 unfolding inode_in
 no_inode agino inode e = none-some inode e
 
-at_group : (t : Table) (number : ℕ) (inode : Inode) → inode_of t number ≡ Some inode → inode_in (group_of t (number / GROUP_NUMBERS)) (number % GROUP_NUMBERS) ≡ Some inode
+at_group : (t : Table) (number : ℕ) (inode : Inode) → inode_of t number ≡ Some inode → inode_in (group_at t (number / GROUP_NUMBERS)) (number % GROUP_NUMBERS) ≡ Some inode
 unfolding inode_of
 at_group t number inode e = e
 
@@ -64,14 +64,14 @@ has_group t number inode at =
 
 -- the lists as they follow
 relisted : (t : Table) (layouts others : Layouts) (group agino : ℕ) (old new : Inode) (was is : Bool) → AreLayouts t layouts → group < length t.groups
-    → inode_in (group_of t group) agino ≡ Some old → is_unlinked_row old.row ≡ was → is_unlinked_row new.row ≡ is → Relists layouts group agino was is others
-    → AreLayouts (with_group t group (set_inode (group_of t group) agino new)) others
+    → inode_in (group_at t group) agino ≡ Some old → is_unlinked_row old.row ≡ was → is_unlinked_row new.row ≡ is → Relists layouts group agino was is others
+    → AreLayouts (with_group t group (set_inode (group_at t group) agino new)) others
 relisted t layouts others group agino old new false true are lt at e f follow = layouts_put t layouts others group agino old new are lt at e f follow
 relisted t layouts others group agino old new true false are lt at e f follow = layouts_taken t layouts others group agino old new are lt at f follow
 relisted t layouts others group agino old new false false are lt at e f follow =
-    subst (AreLayouts (with_group t group (set_inode (group_of t group) agino new))) (sym follow) (layouts_same t layouts group agino old new are lt at (f ∙ sym e))
+    subst (AreLayouts (with_group t group (set_inode (group_at t group) agino new))) (sym follow) (layouts_same t layouts group agino old new are lt at (f ∙ sym e))
 relisted t layouts others group agino old new true true are lt at e f follow =
-    subst (AreLayouts (with_group t group (set_inode (group_of t group) agino new))) (sym follow) (layouts_same t layouts group agino old new are lt at (f ∙ sym e))
+    subst (AreLayouts (with_group t group (set_inode (group_at t group) agino new))) (sym follow) (layouts_same t layouts group agino old new are lt at (f ∙ sym e))
 
 other_layouts : (layouts others : Layouts) (group agino : ℕ) (was is : Bool) → Relists layouts group agino was is others
     → (other : ℕ) → other ≢ group → layout_of others other ≡ layout_of layouts other
@@ -81,7 +81,7 @@ other_layouts layouts others group agino false false follow other apart = ap (λ
 other_layouts layouts others group agino true true follow other apart = ap (λ (l : Layouts). layout_of l other) follow
 
 abbrev replaced : Table → ℕ → Inode → Table
-replaced t number new = with_group t (number / GROUP_NUMBERS) (set_inode (group_of t (number / GROUP_NUMBERS)) (number % GROUP_NUMBERS) new)
+replaced t number new = with_group t (number / GROUP_NUMBERS) (set_inode (group_at t (number / GROUP_NUMBERS)) (number % GROUP_NUMBERS) new)
 
 with_is : (t : Table) (number : ℕ) (new : Inode) → with_inode t number new ≡ replaced t number new
 unfolding with_inode
@@ -101,7 +101,7 @@ follows g t u layouts others image number old new can long blocks are at table f
     (record {
       shape = can.shape;
       table = subst IsTable same table;
-      groups = length-set u.groups group (set_inode (group_of u group) agino new) ∙ long ∙ can.groups;
+      groups = length-set u.groups group (set_inode (group_at u group) agino new) ∙ long ∙ can.groups;
       blocks = blocks ∙ can.blocks;
       layouts_of = relisted u layouts others group agino old new (is_unlinked_row old.row) (is_unlinked_row new.row) are (has_group u number old at) (at_group u number old at) refl refl follow;
       size = can.size;
@@ -117,17 +117,17 @@ pub inode_made : (g : Geometry) (t : Table) (layouts others : Layouts) (image : 
     → inode_of (prepare t group) number ≡ Some old → IsTable (with_inode (prepare t group) number new) → FollowInode layouts number old new others
     → CanEncode g (with_inode (prepare t group) number new) others image
 inode_made g t layouts others image group number old new can lt at table follow =
-    follows g t (prepare t group) layouts others image number old new can (length-set t.groups group (prepared t.blocks group (group_of t group))) refl
+    follows g t (prepare t group) layouts others image number old new can (length-set t.groups group (prepared t.blocks group (group_at t group))) refl
     (layouts_prepared t layouts group can.layouts_of (omega (arith, lt, can.groups))) at table follow
 
 pub inode_carried : (g : Geometry) (t : Table) (layouts others : Layouts) (image : List Sector) (number : ℕ) (old new : Inode) (images : List Image) → CanEncode g t layouts image
     → inode_of t number ≡ Some old → FollowInode layouts number old new others
-    → CarryGroup g (number / GROUP_NUMBERS) layouts (group_of t (number / GROUP_NUMBERS)) others (set_inode (group_of t (number / GROUP_NUMBERS)) (number % GROUP_NUMBERS) new) images
+    → CarryGroup g (number / GROUP_NUMBERS) layouts (group_at t (number / GROUP_NUMBERS)) others (set_inode (group_at t (number / GROUP_NUMBERS)) (number % GROUP_NUMBERS) new) images
     → overlaid (encoded g t layouts image) images ≡ encoded g (with_inode t number new) others image
 inode_carried g t layouts others image number old new images can at follow carry =
     let group : ℕ = number / GROUP_NUMBERS in
     let low : group < g.groups = omega (arith, has_group t number old at, can.groups) in
-    carried_in_group g t layouts others image group (set_inode (group_of t group) (number % GROUP_NUMBERS) new) images can low
+    carried_in_group g t layouts others image group (set_inode (group_at t group) (number % GROUP_NUMBERS) new) images can low
     (other_layouts layouts others group (number % GROUP_NUMBERS) (is_unlinked_row old.row) (is_unlinked_row new.row) follow) carry
     ∙ ap (λ (u : Table). encoded g u others image) (sym (with_is t number new))
 
@@ -145,21 +145,21 @@ unfolding table_made
 twice t group chunks next = ap (table_made t) (set_twice t.groups group chunks next)
 
 made_is : (t : Table) (group number : ℕ) (new : Inode) → group < length t.groups → number / GROUP_NUMBERS ≡ group
-    → with_inode (prepare t group) number new ≡ with_group t group (set_inode (prepared t.blocks group (group_of t group)) (number % GROUP_NUMBERS) new)
+    → with_inode (prepare t group) number new ≡ with_group t group (set_inode (prepared t.blocks group (group_at t group)) (number % GROUP_NUMBERS) new)
 made_is t group number new lt in_it =
-    let ready : Group = prepared t.blocks group (group_of t group) in
+    let ready : Group = prepared t.blocks group (group_at t group) in
     let agino : ℕ = number % GROUP_NUMBERS in
     with_is (prepare t group) number new
-    ∙ ap (λ (n : ℕ). with_group (prepare t group) n (set_inode (group_of (prepare t group) n) agino new)) in_it
+    ∙ ap (λ (n : ℕ). with_group (prepare t group) n (set_inode (group_at (prepare t group) n) agino new)) in_it
     ∙ ap (λ (cs : Group). with_group (prepare t group) group (set_inode cs agino new)) (own_group t group ready lt)
     ∙ twice t group ready (set_inode ready agino new)
 
 pub made_carried : (g : Geometry) (t : Table) (layouts others : Layouts) (image : List Sector) (group number : ℕ) (old new : Inode) (images : List Image) → CanEncode g t layouts image
     → group < g.groups → number / GROUP_NUMBERS ≡ group → FollowInode layouts number old new others
-    → CarryGroup g group layouts (group_of t group) others (set_inode (prepared t.blocks group (group_of t group)) (number % GROUP_NUMBERS) new) images
+    → CarryGroup g group layouts (group_at t group) others (set_inode (prepared t.blocks group (group_at t group)) (number % GROUP_NUMBERS) new) images
     → overlaid (encoded g t layouts image) images ≡ encoded g (with_inode (prepare t group) number new) others image
 made_carried g t layouts others image group number old new images can lt in_it follow carry =
-    let next : Group = set_inode (prepared t.blocks group (group_of t group)) (number % GROUP_NUMBERS) new in
+    let next : Group = set_inode (prepared t.blocks group (group_at t group)) (number % GROUP_NUMBERS) new in
     let here : Relists layouts group (number % GROUP_NUMBERS) (is_unlinked_row old.row) (is_unlinked_row new.row) others =
     subst (λ (n : ℕ). Relists layouts n (number % GROUP_NUMBERS) (is_unlinked_row old.row) (is_unlinked_row new.row) others) in_it follow in
     carried_in_group g t layouts others image group next images can lt

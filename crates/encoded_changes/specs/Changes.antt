@@ -6,9 +6,9 @@ use Rattle.life_table.specs.declared.key.Key.{Key}
 use Rattle.life_table.specs.declared.table.Inode.{Inode}
 use Rattle.life_table.specs.Space.{times, row_blocks, chunk_place, lowest_key, new_chunk}
 use Rattle.life_table.specs.declared.table.Table.{Table}
-use Rattle.life_table.specs.Table.{group_of}
+use Rattle.life_table.specs.Table.{group_at}
 use Rattle.sound_image.specs.Places.{bitmap_place, bitmap_sectors}
-use Rattle.sound_image.specs.Encoding.{Layouts, layout_of, page_of, page_place, list_of, is_unlinked_row}
+use Rattle.sound_image.specs.Encoding.{Layouts, layout_of, page_of, page_place, bucket_list, is_unlinked_row}
 
 -- the place is of the bitmap of a group, of its page, of the chunk that starts at a number
 abbrev pub IsOfBitmap : ℕ → Type 0
@@ -17,8 +17,8 @@ IsOfBitmap place = (bitmap_place ≤ place) × (place < bitmap_place + bitmap_se
 abbrev pub IsOfPage : Layouts → ℕ → ℕ → Type 0
 IsOfPage layouts group place = (page_place layouts group ≤ place) × (place < page_place layouts group + BLOCK_SECTORS)
 
-abbrev pub IsOfChunk : ℕ → ℕ → Type 0
-IsOfChunk start place = (start ≤ place) × (place < start + CHUNK_INODES)
+abbrev pub IsChunkPlace : ℕ → ℕ → Type 0
+IsChunkPlace start place = (start ≤ place) × (place < start + CHUNK_INODES)
 
 -- two inodes have the same blocks, in whichever order
 abbrev pub HaveSameBlocks : Inode → Inode → Type 0
@@ -27,15 +27,15 @@ HaveSameBlocks old new = (block : ℕ) → times block (row_blocks new.row) ≡ 
 -- An inode of a group was put first in the list of its bucket: no other list has changed, no page, and no other group.
 pub record PutsFirst (layouts others : Layouts) (group agino : ℕ) : Type 0 where
   pub page : page_of others group ≡ page_of layouts group
-  pub own : list_of others group (agino % BUCKETS) ≡ agino ∷ list_of layouts group (agino % BUCKETS)
-  pub lists : (bucket : ℕ) → bucket < BUCKETS → bucket ≢ agino % BUCKETS → list_of others group bucket ≡ list_of layouts group bucket
+  pub own : bucket_list others group (agino % BUCKETS) ≡ agino ∷ bucket_list layouts group (agino % BUCKETS)
+  pub lists : (bucket : ℕ) → bucket < BUCKETS → bucket ≢ agino % BUCKETS → bucket_list others group bucket ≡ bucket_list layouts group bucket
   pub groups : (other : ℕ) → other ≢ group → layout_of others other ≡ layout_of layouts other
 
 -- The same for one that was taken out of the list of its bucket.
 pub record TakesOut (layouts others : Layouts) (group agino : ℕ) : Type 0 where
   pub page : page_of others group ≡ page_of layouts group
-  pub own : list_of others group (agino % BUCKETS) ≡ without (list_of layouts group (agino % BUCKETS)) agino
-  pub lists : (bucket : ℕ) → bucket < BUCKETS → bucket ≢ agino % BUCKETS → list_of others group bucket ≡ list_of layouts group bucket
+  pub own : bucket_list others group (agino % BUCKETS) ≡ without (bucket_list layouts group (agino % BUCKETS)) agino
+  pub lists : (bucket : ℕ) → bucket < BUCKETS → bucket ≢ agino % BUCKETS → bucket_list others group bucket ≡ bucket_list layouts group bucket
   pub groups : (other : ℕ) → other ≢ group → layout_of others other ≡ layout_of layouts other
 
 -- the layouts with other buckets of one group
@@ -67,5 +67,5 @@ unused_inode key = record { generation = key.generation; row = None }
 -- A create leaves this place of its group out: where a number was free it adds no chunk, and else the place is not of the bitmap and of the chunk that it adds.
 abbrev pub IsOfNoNewChunk : Table → ℕ → ℕ → Type 0
 IsOfNoNewChunk t group place =
-    (is_some (lowest_key group (group_of t group)) ≡ true)
-    ⊎ ((¬ IsOfBitmap place) × ((block : ℕ) → chunk_place t.blocks (group_of t group) ≡ Some block → ¬ IsOfChunk (new_chunk block).start place))
+    (is_some (lowest_key group (group_at t group)) ≡ true)
+    ⊎ ((¬ IsOfBitmap place) × ((block : ℕ) → chunk_place t.blocks (group_at t group) ≡ Some block → ¬ IsChunkPlace (new_chunk block).start place))

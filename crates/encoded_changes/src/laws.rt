@@ -13,16 +13,16 @@ ghost use Rattle.life_table.specs.Legal.{IsNextKey, prepare};
 ghost use Rattle.life_table.specs.declared.table.Table.{Table};
 ghost use Rattle.life_table.specs.declared.table.Inode.{Inode};
 ghost use Rattle.life_table.specs.declared.table.Chunk.{Chunk};
-ghost use Rattle.life_table.specs.Table.{Group, group_of, in_use, inode_in, inode_of, row_of, set_inode, start_of, with_group, with_inode};
+ghost use Rattle.life_table.specs.Table.{Group, group_at, in_use, inode_in, inode_of, row_of, set_inode, start_of, with_group, with_inode};
 ghost use Rattle.life_table.specs.Space.{times, insert_chunk, is_free_block, new_chunk, prepared, row_blocks};
 ghost use Rattle.life_table.specs.WellFormed.{IsTable};
 ghost use Rattle.sound_image.specs.Places.{bitmap_place, bitmap_sectors, header_place, part};
-ghost use Rattle.sound_image.specs.Encoding.{Layouts, AreLayouts, CanEncode, head_of, header_for, inode_sector, is_unlinked_row, layout_of, list_of, metadata, next_in, page_bytes, page_of, page_place, encoded};
+ghost use Rattle.sound_image.specs.Encoding.{Layouts, AreLayouts, CanEncode, head_of, header_for, inode_sector, is_unlinked_row, layout_of, bucket_list, metadata, next_in, page_bytes, page_of, page_place, encoded};
 ghost use Rattle.sound_image.specs.Rules.{free_set};
-ghost use Rattle.ag_header.specs.Headers.{encoding as header_encoding};
+ghost use Rattle.ag_header.specs.Headers.{header_encoding};
 ghost use Rattle.free_map.specs.Bitmap.{bitmap};
-ghost use Rattle.encoded_changes.specs.Carry.{AreImagesOf, ChangesOnly, Stays, Carry, CarryGroup, image_at};
-ghost use Rattle.encoded_changes.specs.Changes.{FollowInode, HaveSameBlocks, IsOfBitmap, IsOfChunk, IsOfNoNewChunk, IsOfPage, PutsFirst, Relists, TakesOut, put_in, taken_from, unused_inode};
+ghost use Rattle.encoded_changes.specs.Carry.{AreImagesOf, ChangesOnly, Stays, Carry, CarryGroup, image_for};
+ghost use Rattle.encoded_changes.specs.Changes.{FollowInode, HaveSameBlocks, IsOfBitmap, IsChunkPlace, IsOfNoNewChunk, IsOfPage, PutsFirst, Relists, TakesOut, put_in, taken_from, unused_inode};
 
 /// A law: images that carry a change, put over what encodes the table before it, give what encodes the table after it. Where one group alone has changed,
 /// images that carry how that group changes are such. The images of a change, those of the sectors that it changes alone, are one list.
@@ -32,10 +32,10 @@ pub fn images_carry_changes()
         → overlaid (encoded g t layouts image) images ≡ encoded g u others image }
     ensures one_group { (g : Geometry) (t u : Table) (layouts others : Layouts) (group : ℕ) (images : List Image)
         → group < g.groups → ChangesOnly group t layouts u others
-        → CarryGroup g group layouts (group_of t group) others (group_of u group) images → Carry g t layouts u others images }
+        → CarryGroup g group layouts (group_at t group) others (group_at u group) images → Carry g t layouts u others images }
     ensures in_group { (g : Geometry) (t : Table) (layouts others : Layouts) (image : List Sector) (group : ℕ) (next : Group) (images : List Image)
         → CanEncode g t layouts image → group < g.groups → ((other : ℕ) → other ≢ group → layout_of others other ≡ layout_of layouts other)
-        → CarryGroup g group layouts (group_of t group) others next images
+        → CarryGroup g group layouts (group_at t group) others next images
         → overlaid (encoded g t layouts image) images ≡ encoded g (with_group t group next) others image }
     ensures one_list { (g : Geometry) (group : ℕ) (layouts others : Layouts) (chunks next : Group) (first second : List Image)
         → AreImagesOf g group layouts chunks others next first → AreImagesOf g group layouts chunks others next second → first ≡ second }
@@ -54,7 +54,7 @@ pub fn inodes_touch_themselves()
 /// A law: one chunk more touches the header, the bitmap, the page, and the sectors of its inodes.
 pub fn chunks_touch_themselves()
     ensures { (g : Geometry) (layouts : Layouts) (group : ℕ) (chunks : Group) (new : Chunk) (place : ℕ)
-        → place ≢ header_place → ¬ IsOfBitmap place → ¬ IsOfPage layouts group place → ¬ IsOfChunk new.start place
+        → place ≢ header_place → ¬ IsOfBitmap place → ¬ IsOfPage layouts group place → ¬ IsChunkPlace new.start place
         → Stays g group layouts chunks layouts (insert_chunk new chunks) place }
 {}
 
@@ -64,8 +64,8 @@ pub fn buckets_touch_pointers()
     ensures put { (g : Geometry) (layouts others : Layouts) (group : ℕ) (chunks : Group) (agino place : ℕ) → PutsFirst layouts others group agino
         → place ≢ agino → place ≢ header_place → Stays g group layouts chunks others chunks place }
     ensures taken { (g : Geometry) (layouts others : Layouts) (group : ℕ) (chunks : Group) (agino place : ℕ) → TakesOut layouts others group agino
-        → place ≢ agino → (place ≢ header_place) ⊎ (head_of (list_of layouts group (agino % BUCKETS)) ≢ agino)
-        → next_in (list_of layouts group (agino % BUCKETS)) place ≢ agino → Stays g group layouts chunks others chunks place }
+        → place ≢ agino → (place ≢ header_place) ⊎ (head_of (bucket_list layouts group (agino % BUCKETS)) ≢ agino)
+        → next_in (bucket_list layouts group (agino % BUCKETS)) place ≢ agino → Stays g group layouts chunks others chunks place }
     ensures one_before { (members : List ℕ) (agino first second : ℕ) → times agino members ≤ 1 → agino ≢ NO_INODE
         → next_in members first ≡ agino → next_in members second ≡ agino → first ≡ second }
     ensures none_before { (members : List ℕ) (agino other : ℕ) → times agino members ≤ 1 → agino ≢ NO_INODE
@@ -83,8 +83,8 @@ pub fn rows_touch_their_bucket()
         → Stays g group layouts chunks others (set_inode chunks agino new) place }
     ensures taken { (g : Geometry) (layouts others : Layouts) (group : ℕ) (chunks : Group) (agino : ℕ) (old new : Inode) (place : ℕ)
         → TakesOut layouts others group agino → inode_in chunks agino ≡ Some old → place ≢ agino
-        → (place ≢ header_place) ⊎ (head_of (list_of layouts group (agino % BUCKETS)) ≢ agino)
-        → next_in (list_of layouts group (agino % BUCKETS)) place ≢ agino
+        → (place ≢ header_place) ⊎ (head_of (bucket_list layouts group (agino % BUCKETS)) ≢ agino)
+        → next_in (bucket_list layouts group (agino % BUCKETS)) place ≢ agino
         → (is_none new.row ≡ is_none old.row) ⊎ ((place ≢ header_place) × ¬ IsOfPage layouts group place)
         → HaveSameBlocks old new ⊎ ¬ IsOfBitmap place
         → Stays g group layouts chunks others (set_inode chunks agino new) place }
@@ -93,7 +93,7 @@ pub fn rows_touch_their_bucket()
 /// A law: where a group of a table is replaced, and no layout but its own, it alone has changed, and the image can encode the next table where that is well
 /// formed and has these layouts. An inode put first in its bucket, and one taken out, change the layout of their group alone.
 pub fn groups_change_alone()
-    ensures own { (t : Table) (group : ℕ) (chunks : Group) → group < length t.groups → group_of (with_group t group chunks) group ≡ chunks }
+    ensures own { (t : Table) (group : ℕ) (chunks : Group) → group < length t.groups → group_at (with_group t group chunks) group ≡ chunks }
     ensures only { (t : Table) (layouts others : Layouts) (group : ℕ) (chunks : Group) → ((other : ℕ) → other ≢ group → layout_of others other ≡ layout_of layouts other)
         → ChangesOnly group t layouts (with_group t group chunks) others }
     ensures encodes { (g : Geometry) (t : Table) (layouts others : Layouts) (image : List Sector) (group : ℕ) (chunks : Group) → CanEncode g t layouts image
@@ -108,17 +108,17 @@ pub fn groups_change_alone()
 /// once it is put into its bucket; and where one ceases to be, once it is taken out of it.
 pub fn layouts_follow_the_table()
     ensures same { (t : Table) (layouts : Layouts) (group agino : ℕ) (old new : Inode) → AreLayouts t layouts → group < length t.groups
-        → inode_in (group_of t group) agino ≡ Some old → is_unlinked_row new.row ≡ is_unlinked_row old.row
-        → AreLayouts (with_group t group (set_inode (group_of t group) agino new)) layouts }
+        → inode_in (group_at t group) agino ≡ Some old → is_unlinked_row new.row ≡ is_unlinked_row old.row
+        → AreLayouts (with_group t group (set_inode (group_at t group) agino new)) layouts }
     ensures put { (t : Table) (layouts others : Layouts) (group agino : ℕ) (old new : Inode) → AreLayouts t layouts → group < length t.groups
-        → inode_in (group_of t group) agino ≡ Some old → is_unlinked_row old.row ≡ false → is_unlinked_row new.row ≡ true → PutsFirst layouts others group agino
-        → AreLayouts (with_group t group (set_inode (group_of t group) agino new)) others }
+        → inode_in (group_at t group) agino ≡ Some old → is_unlinked_row old.row ≡ false → is_unlinked_row new.row ≡ true → PutsFirst layouts others group agino
+        → AreLayouts (with_group t group (set_inode (group_at t group) agino new)) others }
     ensures taken { (t : Table) (layouts others : Layouts) (group agino : ℕ) (old new : Inode) → AreLayouts t layouts → group < length t.groups
-        → inode_in (group_of t group) agino ≡ Some old → is_unlinked_row new.row ≡ false → TakesOut layouts others group agino
-        → AreLayouts (with_group t group (set_inode (group_of t group) agino new)) others }
+        → inode_in (group_at t group) agino ≡ Some old → is_unlinked_row new.row ≡ false → TakesOut layouts others group agino
+        → AreLayouts (with_group t group (set_inode (group_at t group) agino new)) others }
     ensures chunk { (t : Table) (layouts : Layouts) (group block : ℕ) → AreLayouts t layouts → group < length t.groups
-        → ((agino : ℕ) → start_of agino ≡ (new_chunk block).start → inode_in (group_of t group) agino ≡ None)
-        → AreLayouts (with_group t group (insert_chunk (new_chunk block) (group_of t group))) layouts }
+        → ((agino : ℕ) → start_of agino ≡ (new_chunk block).start → inode_in (group_at t group) agino ≡ None)
+        → AreLayouts (with_group t group (insert_chunk (new_chunk block) (group_at t group))) layouts }
 {}
 
 /// A law: another inode at a number of the image, with its list as it follows, leaves what the image can encode; and images that carry the change of its group
@@ -130,7 +130,7 @@ pub fn encodings_follow_the_table()
         → CanEncode g (with_inode t number new) others image }
     ensures carried { (g : Geometry) (t : Table) (layouts others : Layouts) (image : List Sector) (number : ℕ) (old new : Inode) (images : List Image) → CanEncode g t layouts image
         → inode_of t number ≡ Some old → FollowInode layouts number old new others
-        → CarryGroup g (number / GROUP_NUMBERS) layouts (group_of t (number / GROUP_NUMBERS)) others (set_inode (group_of t (number / GROUP_NUMBERS)) (number % GROUP_NUMBERS) new) images
+        → CarryGroup g (number / GROUP_NUMBERS) layouts (group_at t (number / GROUP_NUMBERS)) others (set_inode (group_at t (number / GROUP_NUMBERS)) (number % GROUP_NUMBERS) new) images
         → overlaid (encoded g t layouts image) images ≡ encoded g (with_inode t number new) others image }
     ensures prepared { (t : Table) (layouts : Layouts) (group : ℕ) → AreLayouts t layouts → group < length t.groups → AreLayouts (prepare t group) layouts }
     ensures made { (g : Geometry) (t : Table) (layouts others : Layouts) (image : List Sector) (group number : ℕ) (old new : Inode) → CanEncode g t layouts image → group < g.groups
@@ -138,7 +138,7 @@ pub fn encodings_follow_the_table()
         → CanEncode g (with_inode (prepare t group) number new) others image }
     ensures made_carried { (g : Geometry) (t : Table) (layouts others : Layouts) (image : List Sector) (group number : ℕ) (old new : Inode) (images : List Image) → CanEncode g t layouts image
         → group < g.groups → number / GROUP_NUMBERS ≡ group → FollowInode layouts number old new others
-        → CarryGroup g group layouts (group_of t group) others (set_inode (prepared t.blocks group (group_of t group)) (number % GROUP_NUMBERS) new) images
+        → CarryGroup g group layouts (group_at t group) others (set_inode (prepared t.blocks group (group_at t group)) (number % GROUP_NUMBERS) new) images
         → overlaid (encoded g t layouts image) images ≡ encoded g (with_inode (prepare t group) number new) others image }
 {}
 
@@ -153,7 +153,7 @@ pub fn creates_touch_their_inode()
     ensures { (g : Geometry) (t : Table) (layouts others : Layouts) (group : ℕ) (key : Key) (new : Inode) (place : ℕ) → IsTable t → IsNextKey t group key
         → Relists layouts group (key.number % GROUP_NUMBERS) false (is_unlinked_row new.row) others → row_blocks new.row ≡ []
         → place ≢ header_place → ¬ IsOfPage layouts group place → place ≢ key.number % GROUP_NUMBERS → IsOfNoNewChunk t group place
-        → Stays g group layouts (group_of t group) others (set_inode (prepared t.blocks group (group_of t group)) (key.number % GROUP_NUMBERS) new) place }
+        → Stays g group layouts (group_at t group) others (set_inode (prepared t.blocks group (group_at t group)) (key.number % GROUP_NUMBERS) new) place }
 {}
 
 /// A law: a sector of the bitmap changes only where a block of its part comes to be free or ceases to be.
@@ -173,7 +173,7 @@ pub fn places_have_their_metadata()
     ensures inode { (g : Geometry) (layouts : Layouts) (group : ℕ) (chunks : Group) (agino : ℕ) (inode : Inode) → page_of layouts group ≤ LAST_PAGE_BLOCK
         → FIRST_DATA_BLOCK * BLOCK_SECTORS ≤ agino → inode_in chunks agino ≡ Some inode → metadata g layouts group chunks agino ≡ Some (inode_sector g layouts group agino inode) }
     ensures place { (g : Geometry) (t : Table) (layouts : Layouts) (image : List Sector) (group agino : ℕ) (inode : Inode) → CanEncode g t layouts image → group < g.groups
-        → inode_in (group_of t group) agino ≡ Some inode → (FIRST_DATA_BLOCK * BLOCK_SECTORS ≤ agino) × (agino < group_sectors g) }
+        → inode_in (group_at t group) agino ≡ Some inode → (FIRST_DATA_BLOCK * BLOCK_SECTORS ≤ agino) × (agino < group_sectors g) }
 {}
 
 /// A law: where an inode stays in use or out of it, its blocks stay, and its list too, the image of its sector carries the change; where it comes to be without
@@ -181,22 +181,22 @@ pub fn places_have_their_metadata()
 /// pointed at it, the header or the inode before it.
 pub fn links_are_carried()
     ensures alone { (g : Geometry) (t : Table) (layouts : Layouts) (image : List Sector) (group agino : ℕ) (old new : Inode) → CanEncode g t layouts image → group < g.groups
-        → inode_in (group_of t group) agino ≡ Some old → is_none new.row ≡ is_none old.row → HaveSameBlocks old new
-        → CarryGroup g group layouts (group_of t group) layouts (set_inode (group_of t group) agino new) (image_at g group agino (inode_sector g layouts group agino new) ∷ []) }
+        → inode_in (group_at t group) agino ≡ Some old → is_none new.row ≡ is_none old.row → HaveSameBlocks old new
+        → CarryGroup g group layouts (group_at t group) layouts (set_inode (group_at t group) agino new) (image_for g group agino (inode_sector g layouts group agino new) ∷ []) }
     ensures put { (g : Geometry) (t : Table) (layouts others : Layouts) (image : List Sector) (group agino : ℕ) (old new : Inode) → CanEncode g t layouts image → group < g.groups
-        → inode_in (group_of t group) agino ≡ Some old → is_none new.row ≡ is_none old.row → HaveSameBlocks old new → PutsFirst layouts others group agino
-        → CarryGroup g group layouts (group_of t group) others (set_inode (group_of t group) agino new)
-        (image_at g group header_place (header_encoding (header_for g group (set_inode (group_of t group) agino new) others))
-        ∷ image_at g group agino (inode_sector g others group agino new) ∷ []) }
+        → inode_in (group_at t group) agino ≡ Some old → is_none new.row ≡ is_none old.row → HaveSameBlocks old new → PutsFirst layouts others group agino
+        → CarryGroup g group layouts (group_at t group) others (set_inode (group_at t group) agino new)
+        (image_for g group header_place (header_encoding (header_for g group (set_inode (group_at t group) agino new) others))
+        ∷ image_for g group agino (inode_sector g others group agino new) ∷ []) }
     ensures taken_first { (g : Geometry) (t : Table) (layouts others : Layouts) (image : List Sector) (group agino : ℕ) (old new : Inode) → CanEncode g t layouts image → group < g.groups
-        → inode_in (group_of t group) agino ≡ Some old → is_none new.row ≡ is_none old.row → HaveSameBlocks old new → TakesOut layouts others group agino
-        → head_of (list_of layouts group (agino % BUCKETS)) ≡ agino
-        → CarryGroup g group layouts (group_of t group) others (set_inode (group_of t group) agino new)
-        (image_at g group header_place (header_encoding (header_for g group (set_inode (group_of t group) agino new) others))
-        ∷ image_at g group agino (inode_sector g others group agino new) ∷ []) }
+        → inode_in (group_at t group) agino ≡ Some old → is_none new.row ≡ is_none old.row → HaveSameBlocks old new → TakesOut layouts others group agino
+        → head_of (bucket_list layouts group (agino % BUCKETS)) ≡ agino
+        → CarryGroup g group layouts (group_at t group) others (set_inode (group_at t group) agino new)
+        (image_for g group header_place (header_encoding (header_for g group (set_inode (group_at t group) agino new) others))
+        ∷ image_for g group agino (inode_sector g others group agino new) ∷ []) }
     ensures taken_later { (g : Geometry) (t : Table) (layouts others : Layouts) (image : List Sector) (group agino before : ℕ) (old new other : Inode) → CanEncode g t layouts image → group < g.groups
-        → inode_in (group_of t group) agino ≡ Some old → is_none new.row ≡ is_none old.row → HaveSameBlocks old new → TakesOut layouts others group agino
-        → inode_in (group_of t group) before ≡ Some other → next_in (list_of layouts group (agino % BUCKETS)) before ≡ agino
-        → CarryGroup g group layouts (group_of t group) others (set_inode (group_of t group) agino new)
-        (image_at g group before (inode_sector g others group before other) ∷ image_at g group agino (inode_sector g others group agino new) ∷ []) }
+        → inode_in (group_at t group) agino ≡ Some old → is_none new.row ≡ is_none old.row → HaveSameBlocks old new → TakesOut layouts others group agino
+        → inode_in (group_at t group) before ≡ Some other → next_in (bucket_list layouts group (agino % BUCKETS)) before ≡ agino
+        → CarryGroup g group layouts (group_at t group) others (set_inode (group_at t group) agino new)
+        (image_for g group before (inode_sector g others group before other) ∷ image_for g group agino (inode_sector g others group agino new) ∷ []) }
 {}

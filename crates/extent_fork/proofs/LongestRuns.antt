@@ -7,7 +7,7 @@ use Rattle.std.proofs.lemmas.List.{drop_more, drop_all, take_more_set}
 use Rattle.std.proofs.Math.ListN.{set}
 use Rattle.std.proofs.lemmas.List.Concat.{flat_map-cons}
 use Rattle.extent_fork.specs.declared.extent.Extent.{Extent}
-use Rattle.extent_fork.specs.Runs.{single, end_of, grown, runs_from, runs, blocks_of, AreApart, AreLongestRuns}
+use Rattle.extent_fork.specs.Runs.{single, run_end, grown, runs_from, runs, blocks_of, AreApart, AreLongestRuns}
 use Rattle.extent_fork.specs.Forks.{IsRun, AreRuns}
 use Rattle.extent_fork.specs.Reading.{runs_in, run_in, ForksAreRead}
 use Rattle.extent_fork.proofs.Lists.{AreApartAfter, with_first}
@@ -25,22 +25,22 @@ ne-eqb : (a b : ℕ) → a ≢ b → eqb a b ≡ false
 ne-eqb a b ne = elim (eqb_tells a b) [ inl p ↦ absurd (ne p.1) | inr p ↦ p.0 ]
 
 -- the next block goes on with the run
-pub goes_on : (run : Extent) (rest : List ℕ) (i d : ℕ) → i < length rest → get_or rest i d ≡ end_of run → runs_from run (drop i rest) ≡ runs_from (grown run) (drop (i + 1) rest)
+pub goes_on : (run : Extent) (rest : List ℕ) (i d : ℕ) → i < length rest → get_or rest i d ≡ run_end run → runs_from run (drop i rest) ≡ runs_from (grown run) (drop (i + 1) rest)
 goes_on run rest i d lt e =
     let others = drop (i + 1) rest in
     let block = get_or rest i d in
-    ap (runs_from run) (drop_more rest i d lt) ∙ chosen (eqb block (end_of run)) (runs_from (grown run) others) (run ∷ runs_from (single block) others) (eq-eqb block (end_of run) e)
+    ap (runs_from run) (drop_more rest i d lt) ∙ chosen (eqb block (run_end run)) (runs_from (grown run) others) (run ∷ runs_from (single block) others) (eq-eqb block (run_end run) e)
 
 -- the next block begins a run
-pub begins : (run : Extent) (rest : List ℕ) (i d : ℕ) → i < length rest → get_or rest i d ≢ end_of run → runs_from run (drop i rest) ≡ run ∷ runs_from (single (get_or rest i d)) (drop (i + 1) rest)
+pub begins : (run : Extent) (rest : List ℕ) (i d : ℕ) → i < length rest → get_or rest i d ≢ run_end run → runs_from run (drop i rest) ≡ run ∷ runs_from (single (get_or rest i d)) (drop (i + 1) rest)
 begins run rest i d lt ne =
     let others = drop (i + 1) rest in
     let block = get_or rest i d in
-    ap (runs_from run) (drop_more rest i d lt) ∙ left_out (eqb block (end_of run)) (runs_from (grown run) others) (run ∷ runs_from (single block) others) (ne-eqb block (end_of run) ne)
+    ap (runs_from run) (drop_more rest i d lt) ∙ left_out (eqb block (run_end run)) (runs_from (grown run) others) (run ∷ runs_from (single block) others) (ne-eqb block (run_end run) ne)
 
 pub some_run : (run : Extent) (blocks : List ℕ) → 1 ≤ length (runs_from run blocks)
 some_run run [] = omega arith
-some_run run (block ∷ blocks) = either (eqb block (end_of run)) (some_run (grown run) blocks)
+some_run run (block ∷ blocks) = either (eqb block (run_end run)) (some_run (grown run) blocks)
   where
     either : (b : Bool) → 1 ≤ length (runs_from (grown run) blocks) → 1 ≤ length (cond b (runs_from (grown run) blocks) (run ∷ runs_from (single block) blocks))
     either true more = more
@@ -54,7 +54,7 @@ range_push (suc n) a =
     let e : a + 1 + n ≡ a + suc n = omega arith in
     ap (λ (l : List ℕ). a ∷ l) (range_push n (a + 1)) ∙ ap (λ (x : ℕ). a ∷ (range_with_len (a + 1) n ++ x ∷ [])) e
 
-blocks_of-grown : (run : Extent) → blocks_of (grown run) ≡ blocks_of run ++ end_of run ∷ []
+blocks_of-grown : (run : Extent) → blocks_of (grown run) ≡ blocks_of run ++ run_end run ∷ []
 blocks_of-grown run = rw add-one (range_push run.count run.start)
 
 -- what holds of the runs that follow a run
@@ -66,19 +66,19 @@ record Follow (run : Extent) (blocks : List ℕ) (found : List Extent) : Type 0 
 follow : (run : Extent) (blocks : List ℕ) → 1 ≤ run.count → Follow run blocks (runs_from run blocks)
 follow run [] counted = record { all = flat_map-cons blocks_of run []; counts = (counted, tt); apart = λ end ne. (ne, tt) }
 follow run (block ∷ blocks) counted =
-    either (eqb_tells block (end_of run)) (follow (grown run) blocks (omega arith)) (follow (single block) blocks (omega arith))
+    either (eqb_tells block (run_end run)) (follow (grown run) blocks (omega arith)) (follow (single block) blocks (omega arith))
   where
-    either : ((eqb block (end_of run) ≡ true) × (block ≡ end_of run)) ⊎ ((eqb block (end_of run) ≡ false) × (block ≢ end_of run))
+    either : ((eqb block (run_end run) ≡ true) × (block ≡ run_end run)) ⊎ ((eqb block (run_end run) ≡ false) × (block ≢ run_end run))
         → Follow (grown run) blocks (runs_from (grown run) blocks) → Follow (single block) blocks (runs_from (single block) blocks) → Follow run (block ∷ blocks) (runs_from run (block ∷ blocks))
-    either (inl p) more new = subst (Follow run (block ∷ blocks)) (sym (chosen (eqb block (end_of run)) (runs_from (grown run) blocks) (run ∷ runs_from (single block) blocks) p.0)) (record {
-      all = more.all ∙ ap (λ (l : List ℕ). l ++ blocks) (blocks_of-grown run) ∙ append_assoc (blocks_of run) (end_of run ∷ []) blocks ∙ ap (λ (x : ℕ). blocks_of run ++ (x ∷ blocks)) (sym p.1);
+    either (inl p) more new = subst (Follow run (block ∷ blocks)) (sym (chosen (eqb block (run_end run)) (runs_from (grown run) blocks) (run ∷ runs_from (single block) blocks) p.0)) (record {
+      all = more.all ∙ ap (λ (l : List ℕ). l ++ blocks) (blocks_of-grown run) ∙ append_assoc (blocks_of run) (run_end run ∷ []) blocks ∙ ap (λ (x : ℕ). blocks_of run ++ (x ∷ blocks)) (sym p.1);
       counts = more.counts;
       apart = more.apart;
     })
-    either (inr p) more new = subst (Follow run (block ∷ blocks)) (sym (left_out (eqb block (end_of run)) (runs_from (grown run) blocks) (run ∷ runs_from (single block) blocks) p.0)) (record {
+    either (inr p) more new = subst (Follow run (block ∷ blocks)) (sym (left_out (eqb block (run_end run)) (runs_from (grown run) blocks) (run ∷ runs_from (single block) blocks) p.0)) (record {
       all = flat_map-cons blocks_of run (runs_from (single block) blocks) ∙ ap (λ (l : List ℕ). blocks_of run ++ l) new.all;
       counts = (counted, new.counts);
-      apart = λ end ne. (ne, with_first run (runs_from (single block) blocks) (new.apart (end_of run) p.1));
+      apart = λ end ne. (ne, with_first run (runs_from (single block) blocks) (new.apart (run_end run) p.1));
     })
 
 pub longest : (blocks : List ℕ) (found : List Extent) → found ≡ runs blocks → AreLongestRuns blocks found
@@ -115,12 +115,12 @@ data_runs run (block ∷ blocks) is small =
     let one = small 0 0 (omega arith) in
     let rest : AreData blocks = λ k d lt. small (suc k) d (omega arith) in
     let alone : IsRun (single block) = record { count = omega arith; start = one.0; end = omega (arith, one.1) } in
-    either (eqb_tells block (end_of run)) (λ e. data_runs (grown run) blocks (record { count = omega (arith, is.count); start = is.start; end = omega (arith, one.1, e) }) rest) (data_runs (single block) blocks alone rest)
+    either (eqb_tells block (run_end run)) (λ e. data_runs (grown run) blocks (record { count = omega (arith, is.count); start = is.start; end = omega (arith, one.1, e) }) rest) (data_runs (single block) blocks alone rest)
   where
-    either : ((eqb block (end_of run) ≡ true) × (block ≡ end_of run)) ⊎ ((eqb block (end_of run) ≡ false) × (block ≢ end_of run))
-        → (block ≡ end_of run → AllByRecursion IsRun (runs_from (grown run) blocks)) → AllByRecursion IsRun (runs_from (single block) blocks) → AllByRecursion IsRun (runs_from run (block ∷ blocks))
-    either (inl p) more new = subst (AllByRecursion IsRun) (sym (chosen (eqb block (end_of run)) (runs_from (grown run) blocks) (run ∷ runs_from (single block) blocks) p.0)) (more p.1)
-    either (inr p) more new = subst (AllByRecursion IsRun) (sym (left_out (eqb block (end_of run)) (runs_from (grown run) blocks) (run ∷ runs_from (single block) blocks) p.0)) (is, new)
+    either : ((eqb block (run_end run) ≡ true) × (block ≡ run_end run)) ⊎ ((eqb block (run_end run) ≡ false) × (block ≢ run_end run))
+        → (block ≡ run_end run → AllByRecursion IsRun (runs_from (grown run) blocks)) → AllByRecursion IsRun (runs_from (single block) blocks) → AllByRecursion IsRun (runs_from run (block ∷ blocks))
+    either (inl p) more new = subst (AllByRecursion IsRun) (sym (chosen (eqb block (run_end run)) (runs_from (grown run) blocks) (run ∷ runs_from (single block) blocks) p.0)) (more p.1)
+    either (inr p) more new = subst (AllByRecursion IsRun) (sym (left_out (eqb block (run_end run)) (runs_from (grown run) blocks) (run ∷ runs_from (single block) blocks) p.0)) (is, new)
 
 -- the runs of data blocks are those of a fork
 pub for_fork : (blocks : List ℕ) (found : List Extent) → found ≡ runs blocks → ((k : ℕ) (d : ℕ) → k < length blocks → get_or blocks k d < 16384)
@@ -176,7 +176,7 @@ runs_again run (next ∷ list) counts apart =
     let rest : List ℕ = flat_map blocks_of list in
     let others : List ℕ = range_with_len (next.start + 1) m ++ rest in
     ap (runs_from run) (flat_map-cons blocks_of next list ∙ ap (λ (l : List ℕ). l ++ rest) (first_block next m e))
-    ∙ left_out (eqb next.start (end_of run)) (runs_from (grown run) others) (run ∷ runs_from (single next.start) others) (ne-eqb next.start (end_of run) apart.0)
+    ∙ left_out (eqb next.start (run_end run)) (runs_from (grown run) others) (run ∷ runs_from (single next.start) others) (ne-eqb next.start (run_end run) apart.0)
     ∙ ap (λ (l : List Extent). run ∷ l) (again_from next m rest e ∙ runs_again next list counts.1 apart.1)
 
 counted : (list : List Extent) → AllByRecursion IsRun list → AllByRecursion (λ one. 1 ≤ one.count) list

@@ -20,14 +20,14 @@ abbrev pub runs_in : ℕ → List ℕ → List Extent
 runs_in count bytes = map (λ k. run_in (field 16 (176 + 16 * k) bytes)) (range_with_len 0 count)
 
 -- a block that data may use
-abbrev pub IsDataBlock : ℕ → Type 0
-IsDataBlock block = (FIRST_DATA_BLOCK ≤ block) × (block < MAX_BLOCKS)
+abbrev pub CanBeDataBlock : ℕ → Type 0
+CanBeDataBlock block = (FIRST_DATA_BLOCK ≤ block) × (block < MAX_BLOCKS)
 
 -- What is encoded is read, so no fork encodes two lists of runs; the fork of few runs has its 336 bytes; and each list of data blocks
 -- has runs that a fork may have, whose blocks are the list. The runs of a fork are the runs of their blocks.
 pub record ForksAreRead : Type 0 where
   pub read : (bytes : List ℕ) (count group : ℕ) (runs : List Extent) → group < MAX_GROUPS → count ≤ MAX_EXTENTS → HasFork bytes count group runs → runs_in count bytes ≡ runs
   pub long : (group : ℕ) (runs : List Extent) → length runs ≤ MAX_EXTENTS → length (fork group runs) ≡ 336
-  pub for_blocks : (blocks : List ℕ) → All IsDataBlock blocks → AreRuns (runs blocks)
+  pub for_blocks : (blocks : List ℕ) → All CanBeDataBlock blocks → AreRuns (runs blocks)
   pub blocks : (blocks : List ℕ) → flat_map blocks_of (runs blocks) ≡ blocks
   pub runs : (list : List Extent) → AreRuns list → runs (flat_map blocks_of list) ≡ list

@@ -8,8 +8,8 @@ abbrev pub single : ℕ → Extent
 single block = record { start = block; count = 1 }
 
 -- the block behind a run
-abbrev pub end_of : Extent → ℕ
-end_of run = run.start + run.count
+abbrev pub run_end : Extent → ℕ
+run_end run = run.start + run.count
 
 -- a run with one block more
 abbrev pub grown : Extent → Extent
@@ -18,7 +18,7 @@ grown run = record { start = run.start; count = run.count + 1 }
 -- the runs of blocks that follow a run: it goes on while the next block is the one behind it
 abbrev pub runs_from : Extent → List ℕ → List Extent
 runs_from run [] = run ∷ []
-runs_from run (block ∷ blocks) = if block == end_of run then runs_from (grown run) blocks else run ∷ runs_from (single block) blocks
+runs_from run (block ∷ blocks) = if block == run_end run then runs_from (grown run) blocks else run ∷ runs_from (single block) blocks
 
 -- the runs of a list of blocks, in its order
 abbrev pub runs : List ℕ → List Extent
@@ -33,7 +33,7 @@ blocks_of run = range_with_len run.start run.count
 abbrev pub AreApart : List Extent → Type 0
 AreApart [] = ⊤
 AreApart (run ∷ []) = ⊤
-AreApart (run ∷ next ∷ others) = (next.start ≢ end_of run) × AreApart (next ∷ others)
+AreApart (run ∷ next ∷ others) = (next.start ≢ run_end run) × AreApart (next ∷ others)
 
 -- these are the longest runs whose blocks, one after the other, are the list
 pub record AreLongestRuns (blocks : List ℕ) (runs : List Extent) : Type 0 where

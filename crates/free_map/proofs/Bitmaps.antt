@@ -12,9 +12,9 @@ use Rattle.std.proofs.lemmas.Nat.Bits.{bit_at-lt, bit_at_lowest, bit_at-suc, bit
 use Rattle.std.proofs.Math.Nat.{pow-suc, div-one}
 use Rattle.byteorder.specs.Endian.{little_bytes}
 use Rattle.byteorder.specs.Numbers.{length-bytes_low_first}
-use Rattle.free_map.specs.Blocks.{is_free}
+use Rattle.free_map.specs.Blocks.{is_block_free}
 use Rattle.free_map.specs.Bitmap.{says_free, read_blocks, number_of_bits, bitmap, BitsAreHeld, IsBitmap}
-use Rattle.free_map.specs.Words.{has, blocks_of, IsKept}
+use Rattle.free_map.specs.Words.{block_bit, map_blocks, AreMapWords}
 use Rattle.free_map.proofs.Bits.{low_byte}
 use Rattle.free_map.proofs.Maps.{is_free_kept, free_blocks_where, length-free_blocks}
 
@@ -52,13 +52,13 @@ number_below (b ∷ bits) (suc k) h =
     omega (arith, cond_small b, number_below bits k (omega arith), pow-suc 2 k)
 
 -- a bit of byte k of a bitmap
-bitmap_bit : (blocks : List Bool) (k i : ℕ) → i < 8 → bit_at (number_of_bits (take 8 (drop (8 * k) blocks))) i ≡ cond (is_free blocks (8 * k + i)) 1 0
+bitmap_bit : (blocks : List Bool) (k i : ℕ) → i < 8 → bit_at (number_of_bits (take 8 (drop (8 * k) blocks))) i ≡ cond (is_block_free blocks (8 * k + i)) 1 0
 bitmap_bit blocks k i h =
     bit_at-number (take 8 (drop (8 * k) blocks)) i
     ∙ ap (λ (b : Bool). cond b 1 0) (get_or-take 8 (drop (8 * k) blocks) i false h ∙ get_or-drop (8 * k) blocks i false)
 
 -- a byte with the bits that the blocks have is that byte of the bitmap
-same_byte : (blocks : List Bool) (k byte : ℕ) → byte < 256 → ((i : ℕ) → i < 8 → eqb (bit_at byte i) 1 ≡ is_free blocks (8 * k + i))
+same_byte : (blocks : List Bool) (k byte : ℕ) → byte < 256 → ((i : ℕ) → i < 8 → eqb (bit_at byte i) 1 ≡ is_block_free blocks (8 * k + i))
     → byte ≡ number_of_bits (take 8 (drop (8 * k) blocks))
 same_byte blocks k byte small same =
     same_from_bits_below 8 byte (number_of_bits (take 8 (drop (8 * k) blocks))) (omega arith)
@@ -85,19 +85,19 @@ read_blocks-bitmap blocks few =
     ∙ ap (λ (n : ℕ). eqb n 1) (
     ap (λ (n : ℕ). bit_at n (b % 8)) (get_or-bitmap blocks (b / 8) 0 (omega arith))
     ∙ bitmap_bit blocks (b / 8) (b % 8) (omega arith))
-    ∙ test_of_bit (is_free blocks (8 * (b / 8) + b % 8))
-    ∙ ap (is_free blocks) place
+    ∙ test_of_bit (is_block_free blocks (8 * (b / 8) + b % 8))
+    ∙ ap (is_block_free blocks) place
     ∙ get_or_default blocks b false d below)
 
 -- what the bytes say of a block, where those from the number of blocks on are clear
-is_free-read : (bytes : List ℕ) (n b : ℕ) → IsBitmap bytes n → is_free (read_blocks bytes n) b ≡ says_free bytes b
+is_free-read : (bytes : List ℕ) (n b : ℕ) → IsBitmap bytes n → is_block_free (read_blocks bytes n) b ≡ says_free bytes b
 is_free-read bytes n b is =
     elim (cases_lt b n) [
       | inl below ↦ get_or-map-range_with_len (says_free bytes) 0 n b b false below (omega arith)
       | inr past ↦ get_or_past (read_blocks bytes n) b false (omega (arith, past, length-map-range_with_len (says_free bytes) 0 n)) ∙ sym (is.clear b past)
     ]
 
--- no set has two bitmaps
+-- no set block_bit two bitmaps
 pub bitmap-read_blocks : (bytes : List ℕ) (n : ℕ) → IsBitmap bytes n → bitmap (read_blocks bytes n) ≡ bytes
 bitmap-read_blocks bytes n is =
     same_lists (bitmap (read_blocks bytes n)) bytes (length-bitmap (read_blocks bytes n) ∙ sym is.long)
@@ -147,9 +147,9 @@ get_or-words words k h =
     ∙ get_or-flat_map (little_bytes 8) words (k / 8) (k % 8) 0 0 (omega arith) (omega (arith, length-bytes_low_first 0 8 (get_or words (k / 8) 0)))
 
 -- the bytes of a map's words are its bitmap
-pub bitmap_of_words : (words : List ℕ) (n free : ℕ) → IsKept words n free → flat_map (little_bytes 8) words ≡ bitmap (blocks_of words n)
+pub bitmap_of_words : (words : List ℕ) (n free : ℕ) → AreMapWords words n free → flat_map (little_bytes 8) words ≡ bitmap (map_blocks words n)
 bitmap_of_words words n free kept =
-    same_lists (flat_map (little_bytes 8) words) (bitmap (blocks_of words n)) (omega (arith, length-words words, kept.whole, length-bitmap (blocks_of words n)))
+    same_lists (flat_map (little_bytes 8) words) (bitmap (map_blocks words n)) (omega (arith, length-words words, kept.whole, length-bitmap (map_blocks words n)))
     (λ k d l.
     let many : length (flat_map (little_bytes 8) words) ≡ 2048 = omega (arith, length-words words, kept.whole) in
     let below : k < 2048 = omega arith in
@@ -160,39 +160,39 @@ bitmap_of_words words n free kept =
     let small : byte < 256 =
     rw (get_or-words words k (omega (arith, below, kept.whole)), byte_of word (k % 8) (omega arith)) (mod_below (word / 2 ^ (8 * (k % 8))) 256 (omega arith)) in
     get_or_default (flat_map (little_bytes 8) words) k d 0 l
-    ∙ same_byte (blocks_of words n) k byte small (λ i h.
+    ∙ same_byte (map_blocks words n) k byte small (λ i h.
     let place : (8 * k + i) / 64 ≡ k / 8 = omega arith in
     let at : (8 * k + i) % 64 ≡ 8 * (k % 8) + i = omega arith in
     ap (λ (x : ℕ). eqb x 1) (bits i h)
     ∙ sym (is_free_kept words n free (8 * k + i) kept ∙ rw (place, at) refl))
-    ∙ sym (get_or-bitmap (blocks_of words n) k d below))
+    ∙ sym (get_or-bitmap (map_blocks words n) k d below))
   where
     byte_of : (x j : ℕ) → j < 8 → get_or (little_bytes 8 x) j 0 ≡ x / 2 ^ (8 * j) % 256
     byte_of x j h = let e : 0 + j ≡ j = omega arith in get_or-bytes_low_first 0 8 x j h ∙ ap (λ (m : ℕ). byte_at m x) e ∙ byte_at-is j x
 
 -- words of 256 whose bits below the number of blocks say what the bytes say, the others cleared
 pub kept_read : (words old bytes : List ℕ) (n free : ℕ) → length words ≡ 256 → n ≤ 16384
-    → ((b : ℕ) → has words b ≡ (ltb b n && has old b))
-    → free ≡ length (filter (has words) (range_with_len 0 (64 * length words))) → IsKept words n free
+    → ((b : ℕ) → block_bit words b ≡ (ltb b n && block_bit old b))
+    → free ≡ length (filter (block_bit words) (range_with_len 0 (64 * length words))) → AreMapWords words n free
 kept_read words old bytes n free whole few cleared counted =
-    let clear : (b : ℕ) → n ≤ b → has words b ≡ false = λ b h. cleared b ∙ and_left (ltb b n) (has old b) (le-ltb b n h) in
+    let clear : (b : ℕ) → n ≤ b → block_bit words b ≡ false = λ b h. cleared b ∙ and_left (ltb b n) (block_bit old b) (le-ltb b n h) in
     record {
       whole = whole;
       few = few;
       clear = clear;
-      count = counted ∙ ap length (sym (free_blocks_where words n (64 * length words) clear (omega (arith, whole, few)))) ∙ length-free_blocks (blocks_of words n);
+      count = counted ∙ ap length (sym (free_blocks_where words n (64 * length words) clear (omega (arith, whole, few)))) ∙ length-free_blocks (map_blocks words n);
     }
 
 pub blocks_read : (words old bytes : List ℕ) (n : ℕ) → n ≤ 16384
-    → ((b : ℕ) → has words b ≡ (ltb b n && has old b)) → ((b : ℕ) → b < 16384 → has old b ≡ says_free bytes b)
-    → blocks_of words n ≡ read_blocks bytes n
+    → ((b : ℕ) → block_bit words b ≡ (ltb b n && block_bit old b)) → ((b : ℕ) → b < 16384 → block_bit old b ≡ says_free bytes b)
+    → map_blocks words n ≡ read_blocks bytes n
 blocks_read words old bytes n few cleared loaded =
-    same_lists (blocks_of words n) (read_blocks bytes n) (length-map-range_with_len (has words) 0 n ∙ sym (length-map-range_with_len (says_free bytes) 0 n))
+    same_lists (map_blocks words n) (read_blocks bytes n) (length-map-range_with_len (block_bit words) 0 n ∙ sym (length-map-range_with_len (says_free bytes) 0 n))
     (λ b d l.
-    let below : b < n = omega (arith, l, length-map-range_with_len (has words) 0 n) in
-    get_or-map-range_with_len (has words) 0 n b b d below (omega arith)
+    let below : b < n = omega (arith, l, length-map-range_with_len (block_bit words) 0 n) in
+    get_or-map-range_with_len (block_bit words) 0 n b b d below (omega arith)
     ∙ cleared b
-    ∙ ap (λ (t : Bool). t && has old b) (lt-ltb b n below)
+    ∙ ap (λ (t : Bool). t && block_bit old b) (lt-ltb b n below)
     ∙ loaded b (omega arith)
     ∙ sym (get_or-map-range_with_len (says_free bytes) 0 n b b d below (omega arith)))
 

@@ -8,17 +8,18 @@ use Rattle.std.proofs.lemmas.List.{append_assoc, append-nil, take_all, take_at, 
 use Rattle.std.proofs.lemmas.List.Elements.{filter-append}
 use Rattle.std.proofs.lemmas.Nat.{shr-shr, and_le_r}
 use Rattle.std.proofs.lemmas.Nat.Bits.{bit_at_clear_same, bit_at_clear_other, bit_at_set_same, bit_at_set_other, bit_at-lt, bit_at-zero, bit_at_and, bit_at_ones, bit_at-trailing_zeros, same_from_bits_below}
-use Rattle.free_map.specs.Words.{has, is_set, places, IsFull}
+use Rattle.life_bytes.specs.Bits.{is_set}
+use Rattle.free_map.specs.Words.{block_bit, places, IsFull}
 use Rattle.free_map.proofs.Ranges.{filter-range_first, filter-range_none, filter-range_agree, range-append}
 
 -- the block of a word that was written
-pub has-set_same : (words : List ℕ) (block v : ℕ) → block / 64 < length words → has (set words (block / 64) v) block ≡ is_set v (block % 64)
+pub has-set_same : (words : List ℕ) (block v : ℕ) → block / 64 < length words → block_bit (set words (block / 64) v) block ≡ is_set v (block % 64)
 has-set_same words block v h = rw (get_or-set_same words (block / 64) v 0 h) refl
 
 -- another block, where the word that was written changed at no other bit
 pub has-set_other : (words : List ℕ) (block v : ℕ) → block / 64 < length words
     → ((i : ℕ) → i < 64 → i ≢ block % 64 → bit_at v i ≡ bit_at (get_or words (block / 64) 0) i)
-    → (b : ℕ) → b ≢ block → has (set words (block / 64) v) b ≡ has words b
+    → (b : ℕ) → b ≢ block → block_bit (set words (block / 64) v) b ≡ block_bit words b
 has-set_other words block v h same b ne =
     elim (cases_eq (b / 64) (block / 64)) [
       | inl e ↦ rw (e, get_or-set_same words (block / 64) v 0 h) (ap (λ (x : ℕ). eqb x 1) (same (b % 64) (omega arith) (λ q. ne (omega (arith, q, e)))))
@@ -27,23 +28,23 @@ has-set_other words block v h same b ne =
 
 -- a cleared bit
 pub cleared_here : (words : List ℕ) (block : ℕ) → block / 64 < length words
-    → has (set words (block / 64) (bit_and (get_or words (block / 64) 0) (bit_not w64 (1 * 2 ^ (block % 64) % 2 ^ 64)))) block ≡ false
+    → block_bit (set words (block / 64) (bit_and (get_or words (block / 64) 0) (bit_not w64 (1 * 2 ^ (block % 64) % 2 ^ 64)))) block ≡ false
 cleared_here words block h =
     has-set_same words block _ h ∙ ap (λ (x : ℕ). eqb x 1) (bit_at_clear_same w64 (get_or words (block / 64) 0) (block % 64) (omega arith))
 
 pub cleared_others : (words : List ℕ) (block : ℕ) → block / 64 < length words → (b : ℕ) → b ≢ block
-    → has (set words (block / 64) (bit_and (get_or words (block / 64) 0) (bit_not w64 (1 * 2 ^ (block % 64) % 2 ^ 64)))) b ≡ has words b
+    → block_bit (set words (block / 64) (bit_and (get_or words (block / 64) 0) (bit_not w64 (1 * 2 ^ (block % 64) % 2 ^ 64)))) b ≡ block_bit words b
 cleared_others words block h b ne =
     has-set_other words block _ h (λ i p d. bit_at_clear_other w64 (get_or words (block / 64) 0) (block % 64) (omega arith) i p d) b ne
 
 -- a set bit
 pub set_here : (words : List ℕ) (block : ℕ) → block / 64 < length words
-    → has (set words (block / 64) (bit_or (get_or words (block / 64) 0) (1 * 2 ^ (block % 64) % 2 ^ 64))) block ≡ true
+    → block_bit (set words (block / 64) (bit_or (get_or words (block / 64) 0) (1 * 2 ^ (block % 64) % 2 ^ 64))) block ≡ true
 set_here words block h =
     has-set_same words block _ h ∙ ap (λ (x : ℕ). eqb x 1) (bit_at_set_same w64 (get_or words (block / 64) 0) (block % 64) (omega arith))
 
 pub set_others : (words : List ℕ) (block : ℕ) → block / 64 < length words → (b : ℕ) → b ≢ block
-    → has (set words (block / 64) (bit_or (get_or words (block / 64) 0) (1 * 2 ^ (block % 64) % 2 ^ 64))) b ≡ has words b
+    → block_bit (set words (block / 64) (bit_or (get_or words (block / 64) 0) (1 * 2 ^ (block % 64) % 2 ^ 64))) b ≡ block_bit words b
 set_others words block h b ne =
     has-set_other words block _ h (λ i p d. bit_at_set_other w64 (get_or words (block / 64) 0) (block % 64) (omega arith) i d) b ne
 
@@ -67,10 +68,10 @@ unfolding places
 places-zero base = filter-range_none (λ b. is_set 0 (b - base)) base 64 (λ i l u. ap (λ (x : ℕ). eqb x 1) (bit_at-zero (i - base)))
 
 -- the set bits of word w, as blocks
-pub places_of : (words : List ℕ) (w : ℕ) → places (64 * w) (get_or words w 0) ≡ filter (has words) (range_with_len (64 * w) 64)
+pub places_of : (words : List ℕ) (w : ℕ) → places (64 * w) (get_or words w 0) ≡ filter (block_bit words) (range_with_len (64 * w) 64)
 unfolding places
 places_of words w =
-    filter-range_agree (λ b. is_set (get_or words w 0) (b - 64 * w)) (has words) (64 * w) 64 (λ i l u.
+    filter-range_agree (λ b. is_set (get_or words w 0) (b - 64 * w)) (block_bit words) (64 * w) 64 (λ i l u.
     let e : i / 64 ≡ w = omega arith in
     let f : i % 64 ≡ i - 64 * w = omega (arith, e) in
     rw (e, f) refl)
@@ -114,11 +115,11 @@ places_full found told rest limit few many before =
     sym (take_at found rest limit e) ∙ ap (λ (xs : List ℕ). take limit xs) before
 
 -- the blocks of the next word, behind the lowest n of those before it
-pub lowest_step : (words found more : List ℕ) (n w : ℕ) → found ≡ take n (filter (has words) (range_with_len 0 (64 * w)))
+pub lowest_step : (words found more : List ℕ) (n w : ℕ) → found ≡ take n (filter (block_bit words) (range_with_len 0 (64 * w)))
     → length found < n → more ≡ take n (found ++ places (64 * w) (get_or words w 0))
-    → more ≡ take n (filter (has words) (range_with_len 0 (64 * (w + 1))))
+    → more ≡ take n (filter (block_bit words) (range_with_len 0 (64 * (w + 1))))
 lowest_step words found more n w before few told =
-    let all : List ℕ = filter (has words) (range_with_len 0 (64 * w)) in
+    let all : List ℕ = filter (block_bit words) (range_with_len 0 (64 * w)) in
     let short : length all ≤ n = omega (arith, ap length before, length-take n all) in
     let whole : found ≡ all = before ∙ take_all n all short in
     let next : 64 * (w + 1) ≡ 64 * w + 64 = omega arith in
@@ -126,22 +127,22 @@ lowest_step words found more n w before few told =
     told
     ∙ ap (λ (xs : List ℕ). take n xs) (
     ap (λ (xs : List ℕ). xs ++ places (64 * w) (get_or words w 0)) whole
-    ∙ ap (λ (xs : List ℕ). all ++ xs) (places_of words w ∙ ap (λ (a : ℕ). filter (has words) (range_with_len a 64)) (sym from))
-    ∙ sym (filter-append (has words) (range_with_len 0 (64 * w)) (range_with_len (0 + 64 * w) 64))
-    ∙ ap (λ (xs : List ℕ). filter (has words) xs) (sym (range-append 0 (64 * w) 64))
-    ∙ ap (λ (m : ℕ). filter (has words) (range_with_len 0 m)) (sym next))
+    ∙ ap (λ (xs : List ℕ). all ++ xs) (places_of words w ∙ ap (λ (a : ℕ). filter (block_bit words) (range_with_len a 64)) (sym from))
+    ∙ sym (filter-append (block_bit words) (range_with_len 0 (64 * w)) (range_with_len (0 + 64 * w) 64))
+    ∙ ap (λ (xs : List ℕ). filter (block_bit words) xs) (sym (range-append 0 (64 * w) 64))
+    ∙ ap (λ (m : ℕ). filter (block_bit words) (range_with_len 0 m)) (sym next))
 
 -- there are n blocks before the words that are left
-pub lowest_enough : (words found : List ℕ) (n w : ℕ) → found ≡ take n (filter (has words) (range_with_len 0 (64 * w)))
-    → n ≤ length found → w ≤ length words → found ≡ take n (filter (has words) (range_with_len 0 (64 * length words)))
+pub lowest_enough : (words found : List ℕ) (n w : ℕ) → found ≡ take n (filter (block_bit words) (range_with_len 0 (64 * w)))
+    → n ≤ length found → w ≤ length words → found ≡ take n (filter (block_bit words) (range_with_len 0 (64 * length words)))
 lowest_enough words found n w before many within =
-    let all : List ℕ = filter (has words) (range_with_len 0 (64 * w)) in
+    let all : List ℕ = filter (block_bit words) (range_with_len 0 (64 * w)) in
     let long : n ≤ length all = omega (arith, ap length before, length-take n all) in
     let rest : ℕ = 64 * length words - 64 * w in
     let split : 64 * length words ≡ 64 * w + rest = omega arith in
     before
-    ∙ sym (take-append-le n all (filter (has words) (range_with_len (0 + 64 * w) rest)) long)
+    ∙ sym (take-append-le n all (filter (block_bit words) (range_with_len (0 + 64 * w) rest)) long)
     ∙ ap (λ (xs : List ℕ). take n xs) (
-    sym (filter-append (has words) (range_with_len 0 (64 * w)) (range_with_len (0 + 64 * w) rest))
-    ∙ ap (λ (xs : List ℕ). filter (has words) xs) (sym (range-append 0 (64 * w) rest))
-    ∙ ap (λ (m : ℕ). filter (has words) (range_with_len 0 m)) (sym split))
+    sym (filter-append (block_bit words) (range_with_len 0 (64 * w)) (range_with_len (0 + 64 * w) rest))
+    ∙ ap (λ (xs : List ℕ). filter (block_bit words) xs) (sym (range-append 0 (64 * w) rest))
+    ∙ ap (λ (m : ℕ). filter (block_bit words) (range_with_len 0 m)) (sym split))

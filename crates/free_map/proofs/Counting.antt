@@ -10,7 +10,8 @@ use Rattle.std.proofs.lemmas.List.Elements.{filter-append}
 use Rattle.std.proofs.lemmas.Nat.{mod-pow-add, ones_cat, mod_below, pow_pos}
 use Rattle.std.proofs.lemmas.Nat.Bits.{bit_at-lt}
 use Rattle.std.proofs.Math.Nat.{mod-eq_of_lt}
-use Rattle.free_map.specs.Words.{has, is_set, places}
+use Rattle.life_bytes.specs.Bits.{is_set}
+use Rattle.free_map.specs.Words.{block_bit, places}
 use Rattle.free_map.proofs.Ranges.{range-append}
 use Rattle.free_map.proofs.Bits.{places_of}
 
@@ -63,19 +64,19 @@ ones_range word (suc k) =
     ∙ ap (λ (n : ℕ). count_ones (word % 2 ^ n)) turned
 
 -- the set bits of one word more
-pub count_step : (words : List ℕ) (w count : ℕ) → get_or words w 0 < 2 ^ 64 → count ≡ length (filter (has words) (range_with_len 0 (64 * w)))
-    → count + count_ones (get_or words w 0) ≡ length (filter (has words) (range_with_len 0 (64 * (w + 1))))
+pub count_step : (words : List ℕ) (w count : ℕ) → get_or words w 0 < 2 ^ 64 → count ≡ length (filter (block_bit words) (range_with_len 0 (64 * w)))
+    → count + count_ones (get_or words w 0) ≡ length (filter (block_bit words) (range_with_len 0 (64 * (w + 1))))
 unfolding places
 count_step words w count fits before =
     let next : 64 * (w + 1) ≡ 64 * w + 64 = omega arith in
     let from : 64 * w + 0 ≡ 64 * w = omega arith in
     let start : 0 + 64 * w ≡ 64 * w = omega arith in
     let word : ℕ = get_or words w 0 in
-    let bits : length (filter (has words) (range_with_len (0 + 64 * w) 64)) ≡ count_ones word =
-    ap (λ (a : ℕ). length (filter (has words) (range_with_len a 64))) start
+    let bits : length (filter (block_bit words) (range_with_len (0 + 64 * w) 64)) ≡ count_ones word =
+    ap (λ (a : ℕ). length (filter (block_bit words) (range_with_len a 64))) start
     ∙ ap length (sym (places_of words w))
     ∙ ap (λ (a : ℕ). length (filter (λ b. is_set word (b - 64 * w)) (range_with_len a 64))) (sym from)
     ∙ length-filter-moved (is_set word) (64 * w) 0 64
     ∙ ones_range word 64
     ∙ ap count_ones (mod-eq_of_lt fits) in
-    omega (arith, before, bits, length-filter-range (has words) (64 * w) 64, ap (λ (n : ℕ). length (filter (has words) (range_with_len 0 n))) next)
+    omega (arith, before, bits, length-filter-range (block_bit words) (64 * w) 64, ap (λ (n : ℕ). length (filter (block_bit words) (range_with_len 0 n))) next)

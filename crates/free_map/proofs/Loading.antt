@@ -13,7 +13,7 @@ use Rattle.life_bytes.specs.SectorBytes.{bytes_of}
 use Rattle.life_bytes.specs.declared.sector.Sector.{Sector}
 use Rattle.std.proofs.lemmas.Bool.{cases_lt, cases_eq, lt-ltb, le-ltb, and_right}
 use Rattle.free_map.specs.Bitmap.{says_free}
-use Rattle.free_map.specs.Words.{has}
+use Rattle.free_map.specs.Words.{block_bit}
 
 -- the k-th number of 8 bytes
 unfoldable pub word_at : List ℕ → ℕ → ℕ
@@ -53,7 +53,7 @@ word_bit bytes k p small h =
 
 -- words that are read say what the bytes say
 pub words_say : (words bytes : List ℕ) (m : ℕ) → AreBytes bytes → ((k : ℕ) → k < m → get_or words k 0 ≡ word_at bytes k)
-    → (b : ℕ) → b < 64 * m → has words b ≡ says_free bytes b
+    → (b : ℕ) → b < 64 * m → block_bit words b ≡ says_free bytes b
 words_say words bytes m small read b h =
     let place : 8 * (b / 64) + b % 64 / 8 ≡ b / 8 = omega arith in
     let at : b % 64 % 8 ≡ b % 8 = omega arith in
@@ -133,7 +133,7 @@ length_put a k width xs ys w many room =
 
 -- a bit of a word that was cleared from a block on
 pub cleared_bit : (words old : List ℕ) (blocks b : ℕ) → get_or words (b / 64) 0 ≡ cleared_word blocks (b / 64) (get_or old (b / 64) 0)
-    → has words b ≡ (ltb b blocks && has old b)
+    → block_bit words b ≡ (ltb b blocks && block_bit old b)
 unfolding cleared_word
 cleared_bit words old blocks b now =
     let k : ℕ = b / 64 in
@@ -153,12 +153,12 @@ cleared_bit words old blocks b now =
     ]
 
 -- past the words no bit is set
-pub has_past : (words : List ℕ) (b : ℕ) → length words ≤ b / 64 → has words b ≡ false
+pub has_past : (words : List ℕ) (b : ℕ) → length words ≤ b / 64 → block_bit words b ≡ false
 has_past words b h = ap (λ (x : ℕ). eqb x 1) (ap (λ (x : ℕ). bit_at x (b % 64)) (get_or_past words (b / 64) 0 h) ∙ bit_at-zero (b % 64))
 
 -- past the words both are false
-pub uncleared_bit : (words old : List ℕ) (blocks b : ℕ) → length words ≤ b / 64 → length old ≤ b / 64 → has words b ≡ (ltb b blocks && has old b)
-uncleared_bit words old blocks b h g = has_past words b h ∙ sym (and_right (ltb b blocks) (has old b) (has_past old b g))
+pub uncleared_bit : (words old : List ℕ) (blocks b : ℕ) → length words ≤ b / 64 → length old ≤ b / 64 → block_bit words b ≡ (ltb b blocks && block_bit old b)
+uncleared_bit words old blocks b h g = has_past words b h ∙ sym (and_right (ltb b blocks) (block_bit old b) (has_past old b g))
 
 -- one word more is cleared
 pub clear_more : (words old : List ℕ) (blocks i left mask : ℕ) → i < length words → left ≡ blocks - 64 * i → mask ≡ 2 ^ (min left 64) - 1

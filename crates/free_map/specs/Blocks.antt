@@ -4,13 +4,13 @@ use Rattle.std.specs.Prelude.{◌≡◌, ◌+◌, ◌%◌, ◌<◌, ℕ, Bool, f
 use Rattle.std.specs.List.{range_with_len}
 
 -- whether a block is free; one at or past the number of blocks never is
-abbrev pub is_free : List Bool → ℕ → Bool
-is_free blocks b = slice_index_or blocks b false
+abbrev pub is_block_free : List Bool → ℕ → Bool
+is_block_free blocks b = slice_index_or blocks b false
 
 -- the free blocks, ascending
-abbrev pub free_blocks : List Bool → List ℕ
-free_blocks blocks = filter (is_free blocks) (range_with_len 0 (length blocks))
+abbrev pub map_free_blocks : List Bool → List ℕ
+map_free_blocks blocks = filter (is_block_free blocks) (range_with_len 0 (length blocks))
 
 -- 8 free blocks in a row that begin at a multiple of 8
-abbrev pub IsRun : List Bool → ℕ → Type 0
-IsRun blocks b = (b % 8 ≡ 0) × ((i : ℕ) → i < 8 → IsTrue (is_free blocks (b + i)))
+abbrev pub IsFreeRun : List Bool → ℕ → Type 0
+IsFreeRun blocks b = (b % 8 ≡ 0) × ((i : ℕ) → i < 8 → IsTrue (is_block_free blocks (b + i)))

@@ -1,7 +1,7 @@
 // The map of one group.
 
 ghost use Rattle.std.specs.Prelude.{◌≡◌, ◌≢◌, ◌+◌, ◌*◌, ◌≤◌, ◌<◌, ℕ, true, false, length, take, slice_set, OnOk, IfOk, IfSome, IfNone, IsTrue};
-ghost use Rattle.free_map.specs.Blocks.{is_free, free_blocks, IsRun};
+ghost use Rattle.free_map.specs.Blocks.{is_block_free, map_free_blocks, IsFreeRun};
 ghost use Rattle.free_map.specs.Bitmap.{read_blocks, bitmap};
 ghost use Rattle.life_bytes.specs.SectorBytes.{bytes_of};
 ghost use Rattle.life_limits.specs.declared.TheConstants.{MAX_BLOCKS};
@@ -23,13 +23,13 @@ pub struct FreeMap {
 
 impl Model for FreeMap {
     ghost use Rattle.std.specs.Prelude.{List, Bool};
-    ghost use Rattle.free_map.specs.Words.{blocks_of, IsKept};
+    ghost use Rattle.free_map.specs.Words.{map_blocks, AreMapWords};
 
     ghost Value = { List Bool };
 
-    ghost view = { λ m. blocks_of m.words m.blocks };
+    ghost view = { λ m. map_blocks m.words m.blocks };
 
-    ghost invariant = { λ m. IsKept m.words m.blocks m.free };
+    ghost invariant = { λ m. AreMapWords m.words m.blocks m.free };
 }
 
 impl FreeMap {
@@ -43,31 +43,31 @@ impl FreeMap {
 
     /// How many blocks are free. The count is kept, so this looks at no bit.
     pub fn free(&self) -> u32
-        ensures { result ≡ length (free_blocks self.now) }
+        ensures { result ≡ length (map_free_blocks self.now) }
     {
         self.free
     }
 
     /// Whether a block is free.
     pub fn is_free(&self, block: u32) -> bool
-        ensures { result ≡ is_free self.now block }
+        ensures { result ≡ is_block_free self.now block }
     {
         block < self.blocks && has_bit(&self.words, block)
     }
 
     /// The lowest `n` free blocks, ascending. It looks at the words up to the last block that it gives.
     pub fn lowest(&self, alloc: Global, n: u32) -> Result<Vec<u32>, NoMemory>
-        requires { n ≤ length (free_blocks self.now) }
-        ensures { IfOk result (λ found. found.items ≡ take n (free_blocks self.now)) }
+        requires { n ≤ length (map_free_blocks self.now) }
+        ensures { IfOk result (λ found. found.items ≡ take n (map_free_blocks self.now)) }
     {
         Ok(lowest_set(alloc, &self.words, n as usize)?)
     }
 
     /// The lowest multiple of 8 whose 8 blocks are free.
     pub fn aligned_run(&self) -> Option<u32>
-        ensures run { IfSome result (IsRun self.now) }
-        ensures lowest { IfSome result (λ b. (c : ℕ) → IsRun self.now c → b ≤ c) }
-        ensures none { IfNone result ((c : ℕ) → ¬ IsRun self.now c) }
+        ensures run { IfSome result (IsFreeRun self.now) }
+        ensures lowest { IfSome result (λ b. (c : ℕ) → IsFreeRun self.now c → b ≤ c) }
+        ensures none { IfNone result ((c : ℕ) → ¬ IsFreeRun self.now c) }
     {
         for (index, word) in self.words.iter().enumerate() {
             if let Some(byte) = full_byte(*word) {
@@ -79,7 +79,7 @@ impl FreeMap {
 
     /// Takes a free block.
     pub fn take(&mut self, block: u32)
-        requires { IsTrue (is_free self.old block) }
+        requires { IsTrue (is_block_free self.old block) }
         ensures { self.new ≡ slice_set self.old block false }
     {
         clear_bit(&mut self.words, block);
@@ -89,7 +89,7 @@ impl FreeMap {
     /// Gives a block back that is not free.
     pub fn give(&mut self, block: u32)
         requires below { block < length self.old }
-        requires taken { is_free self.old block ≡ false }
+        requires taken { is_block_free self.old block ≡ false }
         ensures { self.new ≡ slice_set self.old block true }
     {
         set_bit(&mut self.words, block);

@@ -6,7 +6,7 @@ ghost use Rattle.byteorder.specs.Endian.{little_bytes, little_number, IsRead};
 ghost use Rattle.life_bytes.specs.Fields.{AreBytes};
 ghost use Rattle.life_bytes.specs.SectorBytes.{bytes_of};
 ghost use Rattle.free_map.specs.Bitmap.{says_free};
-ghost use Rattle.free_map.specs.Words.{has};
+ghost use Rattle.free_map.specs.Words.{block_bit};
 ghost use Rattle.life_limits.specs.declared.TheConstants.{MAX_BLOCKS};
 
 use crate::words::WORD_BLOCKS;
@@ -23,7 +23,7 @@ pub const WORDS: usize = 256;
 pub fn load(sectors: &[Sector]) -> [u64; WORDS]
     requires { length sectors.now ≡ 4 }
     ensures whole { length result ≡ 256 }
-    ensures bits { (b : ℕ) → b < MAX_BLOCKS → has result b ≡ says_free (bytes_of sectors.now) b }
+    ensures bits { (b : ℕ) → b < MAX_BLOCKS → block_bit result b ≡ says_free (bytes_of sectors.now) b }
 {
     let mut words = [0; WORDS];
     for (index, sector) in sectors.iter().enumerate() {
@@ -46,7 +46,7 @@ fn load_words(bytes: &[u8], words: &mut [u64])
 /// Clears the bits of the blocks from `blocks` on.
 pub fn clear_past(words: &mut [u64], blocks: u32)
     requires { length words.old ≤ 256 }
-    ensures { (b : ℕ) → has words.new b ≡ (nat_lt b blocks && has words.old b) }
+    ensures { (b : ℕ) → block_bit words.new b ≡ (nat_lt b blocks && block_bit words.old b) }
 {
     for (index, word) in words.iter_mut().enumerate() {
         *word &= low_ones((blocks as usize).saturating_sub(WORD_BLOCKS * index));
@@ -67,7 +67,7 @@ fn low_ones(count: usize) -> u64
 /// How many bits are set.
 pub fn count_set(words: &[u64]) -> u32
     requires { length words.now ≤ 256 }
-    ensures { result ≡ length (filter (has words.now) (range_with_len 0 (64 * length words.now))) }
+    ensures { result ≡ length (filter (block_bit words.now) (range_with_len 0 (64 * length words.now))) }
 {
     let mut count = 0;
     for word in words {

@@ -2,7 +2,7 @@
 
 ghost use Rattle.std.specs.Prelude.{◌≡◌, ◌≢◌, ◌+◌, ◌*◌, ◌/◌, ◌%◌, ◌≤◌, ◌<◌, ◌^◌, ◌++◌, ℕ, true, false, length, filter, take, OnOk, IfOk, IfSome, IfNone, vec_len};
 ghost use Rattle.std.specs.List.{range_with_len};
-ghost use Rattle.free_map.specs.Words.{has, places, IsFull};
+ghost use Rattle.free_map.specs.Words.{block_bit, places, IsFull};
 
 use std::alloc::{AllocError, Global};
 
@@ -12,7 +12,7 @@ pub const WORD_BLOCKS: usize = 64;
 /// Whether the bit of a block is set.
 pub fn has_bit(words: &[u64], block: u32) -> bool
     requires { block / 64 < length words.now }
-    ensures { result ≡ has words.now block }
+    ensures { result ≡ block_bit words.now block }
 {
     (words[block as usize / WORD_BLOCKS] >> (block % 64)) & 1 == 1
 }
@@ -20,8 +20,8 @@ pub fn has_bit(words: &[u64], block: u32) -> bool
 /// Clears the bit of a block.
 pub fn clear_bit(words: &mut [u64], block: u32)
     requires { block / 64 < length words.old }
-    ensures here { has words.new block ≡ false }
-    ensures others { (b : ℕ) → b ≢ block → has words.new b ≡ has words.old b }
+    ensures here { block_bit words.new block ≡ false }
+    ensures others { (b : ℕ) → b ≢ block → block_bit words.new b ≡ block_bit words.old b }
 {
     words[block as usize / WORD_BLOCKS] &= !(1 << (block % 64));
 }
@@ -29,8 +29,8 @@ pub fn clear_bit(words: &mut [u64], block: u32)
 /// Sets the bit of a block.
 pub fn set_bit(words: &mut [u64], block: u32)
     requires { block / 64 < length words.old }
-    ensures here { has words.new block ≡ true }
-    ensures others { (b : ℕ) → b ≢ block → has words.new b ≡ has words.old b }
+    ensures here { block_bit words.new block ≡ true }
+    ensures others { (b : ℕ) → b ≢ block → block_bit words.new b ≡ block_bit words.old b }
 {
     words[block as usize / WORD_BLOCKS] |= 1 << (block % 64);
 }
@@ -53,7 +53,7 @@ fn push_places(found: &mut Vec<u32>, word: u64, base: u32, limit: usize) -> Resu
 /// The lowest `n` blocks whose bits are set, or all of them where there are fewer.
 pub fn lowest_set(alloc: Global, words: &[u64], n: usize) -> Result<Vec<u32>, AllocError>
     requires { length words.now ≤ 256 }
-    ensures { IfOk result (λ found. found.items ≡ take n (filter (has words.now) (range_with_len 0 (64 * length words.now)))) }
+    ensures { IfOk result (λ found. found.items ≡ take n (filter (block_bit words.now) (range_with_len 0 (64 * length words.now)))) }
 {
     let mut found = Vec::with_capacity(alloc, n)?;
     for (index, word) in words.iter().enumerate() {

@@ -2,12 +2,12 @@
 use Rattle.std.proofs.Common.{◌≡◌, ℕ, List, take, drop, refl, ap, sym, ◌∙◌, arith, lit≤}
 use Rattle.life_bytes.specs.Fields.{field}
 use Rattle.life_bytes.specs.Pieces.{piece}
-use Rattle.life_bytes.specs.TableLaws.{AreRows, sealed_row, sealed_number}
+use Rattle.life_bytes.specs.TableLaws.{AreFields, sealed_row, sealed_number}
 use Rattle.geometry.specs.declared.shape.Geometry.{Geometry}
 use Rattle.geometry.specs.Shape.{IsGeometry}
-use Rattle.geometry.specs.Superblock.{superblock, encoding, SuperblocksTell}
+use Rattle.geometry.specs.Superblock.{superblock, superblock_encoding, SuperblocksTell}
 
-rows : (g : Geometry) → IsGeometry g → AreRows 512 (superblock g)
+rows : (g : Geometry) → IsGeometry g → AreFields 512 (superblock g)
 rows g is =
     ((lit≤ tt, refl), ((lit≤ tt, refl), ((lit≤ tt, refl), ((lit≤ tt, refl), ((lit≤ tt, refl), ((lit≤ tt, is.uuid), tt))))))
 
@@ -19,8 +19,8 @@ pub record Says (g : Geometry) (bytes : List ℕ) : Type 0 where
   pub ring : field 4 16 bytes ≡ g.ring
   pub uuid : take 16 (drop 24 bytes) ≡ g.uuid
 
-pub says : (g : Geometry) → IsGeometry g → Says g (encoding g)
-unfolding encoding
+pub says : (g : Geometry) → IsGeometry g → Says g (superblock_encoding g)
+unfolding superblock_encoding
 says g is = record {
   version = sealed_number 40 (superblock g) 1 4 4 g.version (rows g is) (lit≤ tt) refl refl (omega (arith, is.version));
   groups = sealed_number 40 (superblock g) 2 8 4 g.groups (rows g is) (lit≤ tt) refl refl (omega (arith, is.groups));
@@ -40,7 +40,7 @@ same a b version groups blocks ring uuid =
 
 -- what the fields of these bytes give is what the bytes encode
 pub is_read : (read g : Geometry) (bytes : List ℕ) → read.version ≡ field 4 4 bytes → read.groups ≡ field 4 8 bytes → read.blocks ≡ field 4 12 bytes
-    → read.ring ≡ field 4 16 bytes → read.uuid ≡ take 16 (drop 24 bytes) → IsGeometry g → bytes ≡ encoding g → read ≡ g
+    → read.ring ≡ field 4 16 bytes → read.uuid ≡ take 16 (drop 24 bytes) → IsGeometry g → bytes ≡ superblock_encoding g → read ≡ g
 is_read read g bytes version groups blocks ring uuid is encoded =
     let s = says g is in
     same read g (version ∙ ap (field 4 4) encoded ∙ s.version) (groups ∙ ap (field 4 8) encoded ∙ s.groups) (blocks ∙ ap (field 4 12) encoded ∙ s.blocks)
@@ -49,4 +49,4 @@ is_read read g bytes version groups blocks ring uuid is encoded =
 pub superblocks_tell : SuperblocksTell
 superblocks_tell a b is_a is_b e =
     let s = says a is_a in
-    is_read a b (encoding a) (sym s.version) (sym s.groups) (sym s.blocks) (sym s.ring) (sym s.uuid) is_b e
+    is_read a b (superblock_encoding a) (sym s.version) (sym s.groups) (sym s.blocks) (sym s.ring) (sym s.uuid) is_b e

@@ -15,9 +15,13 @@ abbrev pub group_sectors : Geometry → ℕ
 group_sectors g = g.blocks * BLOCK_SECTORS
 
 -- the number of an inode of the image
-abbrev pub IsNumber : Geometry → ℕ → Type 0
-IsNumber g number = (group_of number < g.groups) × (agino_of number < group_sectors g)
+abbrev pub IsInodeNumber : Geometry → ℕ → Type 0
+IsInodeNumber g number = (group_of number < g.groups) × (agino_of number < group_sectors g)
 
 -- An inode stands in the sector of its place in its group, and the groups follow each other.
 abbrev pub place_of : Geometry → ℕ → ℕ
 place_of g number = group_of number * group_sectors g + agino_of number
+
+-- the sector of the anchor, behind all groups; so also the number of the groups' sectors
+abbrev pub anchor_of : Geometry → ℕ
+anchor_of g = g.groups * group_sectors g

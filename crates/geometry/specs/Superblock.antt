@@ -1,16 +1,16 @@
 -- The superblock as a sector.
 use Rattle.std.specs.Prelude.{◌≡◌, ℕ, List, [], ◌∷◌}
-use Rattle.life_bytes.specs.Pieces.{Row, number, piece, placed, blank, sealed}
+use Rattle.life_bytes.specs.Pieces.{Field, number, piece, placed, blank, sealed}
 use Rattle.geometry.specs.declared.shape.Geometry.{Geometry}
 use Rattle.geometry.specs.Shape.{IsGeometry}
 
 -- `LIFE` in ASCII
-abbrev pub magic : ℕ
-magic = 0x4C49_4645
+abbrev pub superblock_magic : ℕ
+superblock_magic = 0x4C49_4645
 
-abbrev pub superblock : Geometry → List Row
+abbrev pub superblock : Geometry → List Field
 superblock g =
-    number 0 4 magic
+    number 0 4 superblock_magic
     ∷ number 4 4 g.version
     ∷ number 8 4 g.groups
     ∷ number 12 4 g.blocks
@@ -19,9 +19,9 @@ superblock g =
     ∷ []
 
 -- the sector that encodes a geometry: its fields over zeros, and the checksum at byte 40
-unfoldable pub encoding : Geometry → List ℕ
-encoding g = sealed 40 (placed (superblock g) blank)
+unfoldable pub superblock_encoding : Geometry → List ℕ
+superblock_encoding g = sealed 40 (placed (superblock g) blank)
 
 -- no sector encodes two geometries
 abbrev pub SuperblocksTell : Type 0
-SuperblocksTell = (a b : Geometry) → IsGeometry a → IsGeometry b → encoding a ≡ encoding b → a ≡ b
+SuperblocksTell = (a b : Geometry) → IsGeometry a → IsGeometry b → superblock_encoding a ≡ superblock_encoding b → a ≡ b

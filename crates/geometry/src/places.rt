@@ -2,7 +2,7 @@
 
 ghost use Rattle.std.specs.Prelude.{◌≡◌, ◌+◌, ◌*◌, ◌<◌, ℕ};
 ghost use Rattle.geometry.specs.Shape.{IsGeometry};
-ghost use Rattle.geometry.specs.Places.{group_of, agino_of, group_sectors, IsNumber, place_of};
+ghost use Rattle.geometry.specs.Places.{group_of, agino_of, group_sectors, IsInodeNumber, place_of};
 
 use crate::shape::Geometry;
 use life_limits::{BLOCK_SECTORS, GROUP_NUMBERS, MAX_GROUPS, MAX_NUMBERS};
@@ -37,10 +37,10 @@ pub fn image_sectors(g: &Geometry) -> u64
 /// The sector in which an inode stands.
 pub fn sector_of(g: &Geometry, number: u64) -> u64
     requires shape { IsGeometry g.now }
-    requires inside { IsNumber g.now number }
+    requires inside { IsInodeNumber g.now number }
     ensures place { result ≡ place_of g.now number }
     ensures in_groups { result < g.now.groups * group_sectors g.now }
-    ensures alone { (other : ℕ) → IsNumber g.now other → place_of g.now other ≡ result → other ≡ number }
+    ensures alone { (other : ℕ) → IsInodeNumber g.now other → place_of g.now other ≡ result → other ≡ number }
 {
     let (group, agino) = split(number);
     u64::from(group * (g.blocks * BLOCK_SECTORS) + agino)
@@ -49,10 +49,10 @@ pub fn sector_of(g: &Geometry, number: u64) -> u64
 /// The index of an inode's word, where each number of the image has one: the words of a group follow those of the group before it.
 pub fn word_at(g: &Geometry, number: u64) -> usize
     requires shape { IsGeometry g.now }
-    requires inside { IsNumber g.now number }
+    requires inside { IsInodeNumber g.now number }
     ensures place { result ≡ place_of g.now number }
     ensures in_words { result < g.now.groups * group_sectors g.now }
-    ensures alone { (other : ℕ) → IsNumber g.now other → place_of g.now other ≡ result → other ≡ number }
+    ensures alone { (other : ℕ) → IsInodeNumber g.now other → place_of g.now other ≡ result → other ≡ number }
 {
     sector_of(g, number) as usize
 }

@@ -16,7 +16,7 @@ ghost use Rattle.std.specs.Prelude.{◌≡◌, ◌↔◌, IsTrue, IfOk, IfErr, t
 ghost use Rattle.life_bytes.specs.Fields.{field};
 ghost use Rattle.geometry.specs.declared.shape.Geometry.{Geometry};
 ghost use Rattle.geometry.specs.Shape.{IsGeometry};
-ghost use Rattle.geometry.specs.Superblock.{encoding};
+ghost use Rattle.geometry.specs.Superblock.{superblock_encoding};
 
 use crate::shape::{Damaged, Geometry};
 use life_bytes::{Sector, field_u32, put_crc, put_u32};
@@ -58,8 +58,8 @@ fn is_within_limits(g: &Geometry) -> bool
 
 /// Whether the sector is the superblock of such a geometry, byte by byte.
 fn is_superblock_of(g: &Geometry, sector: &Sector) -> bool
-    ensures sound { IsTrue result → IsGeometry g.now × (sector.now.bytes ≡ encoding g.now) }
-    ensures complete { IsGeometry g.now → sector.now.bytes ≡ encoding g.now → IsTrue result }
+    ensures sound { IsTrue result → IsGeometry g.now × (sector.now.bytes ≡ superblock_encoding g.now) }
+    ensures complete { IsGeometry g.now → sector.now.bytes ≡ superblock_encoding g.now → IsTrue result }
 {
     if !is_within_limits(g) {
         return false;
@@ -71,8 +71,8 @@ fn is_superblock_of(g: &Geometry, sector: &Sector) -> bool
 
 /// Reads the superblock. The fault is always rule 1 at sector 0.
 pub fn read_super(sector: &Sector) -> Result<Geometry, Damaged>
-    ensures found { IfOk result (λ g. IsGeometry g × (sector.now.bytes ≡ encoding g)) }
-    ensures only { (g : Geometry) → IsGeometry g → sector.now.bytes ≡ encoding g → result ≡ Ok g }
+    ensures found { IfOk result (λ g. IsGeometry g × (sector.now.bytes ≡ superblock_encoding g)) }
+    ensures only { (g : Geometry) → IsGeometry g → sector.now.bytes ≡ superblock_encoding g → result ≡ Ok g }
     ensures damaged { IfErr result (λ d. d ≡ record { rule = 1; sector = 0 }) }
 {
     let g = fields_of(sector);
@@ -86,7 +86,7 @@ pub fn read_super(sector: &Sector) -> Result<Geometry, Damaged>
 /// Writes the whole sector.
 pub fn write_super(g: &Geometry, into: &mut Sector)
     requires { IsGeometry g.now }
-    ensures { into.new.bytes ≡ encoding g.now }
+    ensures { into.new.bytes ≡ superblock_encoding g.now }
 {
     let mut new = Sector::zero();
     put_u32(&mut new.bytes, 0, MAGIC);

@@ -11,22 +11,22 @@ use Rattle.life_bytes.specs.declared.sector.Sector.{Sector}
 use Rattle.life_bytes.specs.Sectors.{zero_sector}
 use Rattle.life_bytes.specs.Fields.{field}
 use Rattle.geometry.specs.declared.shape.Geometry.{Geometry}
-use Rattle.geometry.specs.Places.{group_sectors}
+use Rattle.geometry.specs.Places.{group_sectors, anchor_of}
 use Rattle.geometry.specs.Shape.{IsGeometry}
 use Rattle.life_table.specs.declared.table.Table.{Table}
-use Rattle.life_table.specs.Table.{Group, empty_table, group_of, inode_in, map_group}
+use Rattle.life_table.specs.Table.{Group, empty_table, group_at, inode_in, map_group}
 use Rattle.life_table.specs.Space.{times}
 use Rattle.life_table.specs.History.{closed, closed_inode}
 use Rattle.life_table.specs.declared.table.Inode.{Inode}
 use Rattle.life_table.specs.WellFormed.{IsTable}
 use Rattle.sound_image.specs.Places.{bytes_at, sector_in}
-use Rattle.sound_image.specs.Encoding.{Layouts, AreLayouts, CanEncode, layout_of, list_of, page_of, metadata, encoded, encoded_bytes, is_unlinked}
+use Rattle.sound_image.specs.Encoding.{Layouts, AreLayouts, CanEncode, layout_of, bucket_list, page_of, metadata, encoded, encoded_bytes, is_unlinked}
 use Rattle.sound_image.specs.Superblocks.{HasSuperblock, IsLongEnough}
 use Rattle.log_image.specs.Anchor.{HasAnchor}
 use Rattle.log_image.specs.Log.{AreBelow, groups_part}
-use Rattle.whole_image.specs.Front.{anchor_of, ring_of}
+use Rattle.whole_image.specs.Front.{ring_of}
 use Rattle.whole_image.specs.Represents.{Represents}
-use Rattle.image_make.specs.Empty.{IsFinished, empty_sector, sector_at}
+use Rattle.image_make.specs.Empty.{IsFinished, empty_sector, sector_or_zero}
 use Rattle.image_make.specs.Outcome.{IsEmptyImage}
 use Rattle.image_make.proofs.Places.{at_none}
 
@@ -57,7 +57,7 @@ same_groups change (suc n) = ap (λ (l : List Group). [] ∷ l) (same_groups cha
 closed_empty : (g : Geometry) → closed (empty_of g) ≡ empty_of g
 closed_empty g = ap (λ (l : List Group). let t : Table = record { version = g.version; blocks = g.blocks; groups = l } in t) (same_groups closed_inode g.groups)
 
-no_inode : (g : Geometry) (group agino : ℕ) → inode_in (group_of (empty_of g) group) agino ≡ None
+no_inode : (g : Geometry) (group agino : ℕ) → inode_in (group_at (empty_of g) group) agino ≡ None
 unfolding inode_in
 no_inode g group agino = ap (λ (l : Group). inode_in l agino) (no_chunks g.groups group)
 
@@ -65,10 +65,10 @@ in_no_list : (b : Bool) (inode : Option Inode) → inode ≡ None → let count 
 in_no_list b inode none = sym (cond-false (b && is_unlinked inode) 1 0 (and_right b (is_unlinked inode) (ap is_unlinked none)))
 
 layouts : (g : Geometry) → AreLayouts (empty_of g) []
-unfolding layout_of list_of page_of times
+unfolding layout_of bucket_list page_of times
 layouts g = record {
   pages = λ group lt. (omega arith, omega arith);
-  buckets = λ group bucket agino lt low. in_no_list (eqb (agino % BUCKETS) bucket) (inode_in (group_of (empty_of g) group) agino) (no_inode g group agino);
+  buckets = λ group bucket agino lt low. in_no_list (eqb (agino % BUCKETS) bucket) (inode_in (group_at (empty_of g) group) agino) (no_inode g group agino);
 }
 
 can_encode : (g : Geometry) (base : List Sector) → IsGeometry g → IsTable (empty_of g) → anchor_of g ≤ length base → CanEncode g (empty_of g) [] base
@@ -88,15 +88,15 @@ again (Some bytes) d = refl
 
 -- what the format says of a place stands there
 place_holds : (g : Geometry) (image : List Sector) (group place : ℕ) → IsFinished g image → group < g.groups → place < group_sectors g
-    → unwrap_or (metadata g [] group [] place) (sector_at image (sector_in g group place)).bytes ≡ (sector_at image (sector_in g group place)).bytes
+    → unwrap_or (metadata g [] group [] place) (sector_or_zero image (sector_in g group place)).bytes ≡ (sector_or_zero image (sector_in g group place)).bytes
 place_holds g image group place finished lt low = elim (cases_lt 0 (sector_in g group place)) [
   | inl behind ↦
       let o = metadata g [] group [] place in
-      let e : sector_at image (sector_in g group place) ≡ empty_sector g group place = finished.groups group place lt low behind in
+      let e : sector_or_zero image (sector_in g group place) ≡ empty_sector g group place = finished.groups group place lt low behind in
       ap (λ (s : Sector). unwrap_or o s.bytes) e ∙ again o zero_sector.bytes ∙ sym (ap (λ (s : Sector). s.bytes) e)
   | inr first ↦
       let none : place ≡ 0 = first_place g group place first in
-      ap (λ (o : Option (List ℕ)). unwrap_or o (sector_at image (sector_in g group place)).bytes) (at_none g group place (inl (omega arith)))
+      ap (λ (o : Option (List ℕ)). unwrap_or o (sector_or_zero image (sector_in g group place)).bytes) (at_none g group place (inl (omega arith)))
 ]
 
 abbrev base_of : Geometry → List Sector → List Sector
@@ -125,12 +125,12 @@ encoded_at g image s finished lt =
     let size : ℕ = group_sectors g in
     let at = by_place g.groups size s lt in
     let old : List ℕ = (get_or (base_of g image) s zero_sector).bytes in
-    let is : get_or (base_of g image) s zero_sector ≡ sector_at image s = get_or-take (anchor_of g) image s zero_sector lt in
+    let is : get_or (base_of g image) s zero_sector ≡ sector_or_zero image s = get_or-take (anchor_of g) image s zero_sector lt in
     cond-true (ltb s (anchor_of g)) _ _ (lt-ltb s (anchor_of g) lt)
     ∙ ap (λ (l : Group). unwrap_or (metadata g [] (s / size) l (s % size)) old) (no_chunks g.groups (s / size))
-    ∙ ap (λ (x : Sector). unwrap_or (metadata g [] (s / size) [] (s % size)) x.bytes) (is ∙ ap (sector_at image) (sym at.2))
+    ∙ ap (λ (x : Sector). unwrap_or (metadata g [] (s / size) [] (s % size)) x.bytes) (is ∙ ap (sector_or_zero image) (sym at.2))
     ∙ place_holds g image (s / size) (s % size) finished at.0 at.1
-    ∙ ap (λ (x : Sector). x.bytes) (ap (sector_at image) at.2 ∙ sym is)
+    ∙ ap (λ (x : Sector). x.bytes) (ap (sector_or_zero image) at.2 ∙ sym is)
 
 abbrev sector_of : List ℕ → Sector
 sector_of bytes = record { bytes = bytes }

@@ -5,13 +5,13 @@ use Rattle.std.proofs.lemmas.Bool.{lt-leb, lt-ltb, le-ltb, ne_eqb, cond-true, co
 use Rattle.life_bytes.specs.declared.sector.Sector.{Sector}
 use Rattle.life_bytes.specs.Sectors.{zero_sector}
 use Rattle.geometry.specs.declared.shape.Geometry.{Geometry}
-use Rattle.ag_header.specs.Headers.{encoding as header_encoding}
+use Rattle.ag_header.specs.Headers.{header_encoding}
 use Rattle.free_map.specs.Bitmap.{bitmap}
 use Rattle.life_table.specs.Table.{inode_in}
 use Rattle.sound_image.specs.Places.{part}
 use Rattle.sound_image.specs.Rules.{free_set}
 use Rattle.sound_image.specs.Encoding.{header_for, layout_of, page_of, page_place, page_bytes, metadata}
-use Rattle.image_make.specs.Empty.{empty_sector, sector_at}
+use Rattle.image_make.specs.Empty.{empty_sector, sector_or_zero}
 use Rattle.image_make.proofs.Putting.{with_at, length-with_at, put_inside, put_before, put_behind, all_zero}
 
 abbrev is_bitmap : ℕ → Bool
@@ -92,9 +92,9 @@ no_sector g group place is = ap (λ (o : Option (List ℕ)). sector_of (unwrap_o
 pub record Head (g : Geometry) (group : ℕ) (header : Sector) (map page head : List Sector) : Type 0 where
   pub header_is : header.bytes ≡ header_encoding (header_for g group [] [])
   pub map_long : length map ≡ 4
-  pub map_is : (k : ℕ) → k < 4 → (sector_at map k).bytes ≡ part k (bitmap (free_set g.blocks []))
+  pub map_is : (k : ℕ) → k < 4 → (sector_or_zero map k).bytes ≡ part k (bitmap (free_set g.blocks []))
   pub page_long : length page ≡ 8
-  pub page_is : (k : ℕ) → k < 8 → (sector_at page k).bytes ≡ part k (page_bytes g [] group [])
+  pub page_is : (k : ℕ) → k < 8 → (sector_or_zero page k).bytes ≡ part k (page_bytes g [] group [])
   pub is : head ≡ with_at 14 page (with_at 6 map (with_at 0 (header ∷ []) (replicate 22 zero_sector)))
 
 abbrev first_of : Sector → List Sector
@@ -114,43 +114,43 @@ head_long g group header map page head h =
 
 -- a place that is neither of the bitmap nor of the page
 aside : (g : Geometry) (group : ℕ) (header : Sector) (map page head : List Sector) (k : ℕ) → Head g group header map page head → k < 22 → (k < 6) ⊎ ((10 ≤ k) × (k < 14))
-    → sector_at head k ≡ sector_at (first_of header) k
+    → sector_or_zero head k ≡ sector_or_zero (first_of header) k
 aside g group header map page head k h lt (inl low) =
     let long = second_long header map h.map_long in
     let long_page = h.page_long in
     let long_map = h.map_long in
-    ap (λ (l : List Sector). sector_at l k) h.is
+    ap (λ (l : List Sector). sector_or_zero l k) h.is
     ∙ put_before 14 k page (with_at 6 map (first_of header)) (omega arith) (omega arith)
     ∙ put_before 6 k map (first_of header) (omega (arith, first_long header)) low
 aside g group header map page head k h lt (inr (more, low)) =
     let long = second_long header map h.map_long in
     let long_page = h.page_long in
     let long_map = h.map_long in
-    ap (λ (l : List Sector). sector_at l k) h.is
+    ap (λ (l : List Sector). sector_or_zero l k) h.is
     ∙ put_before 14 k page (with_at 6 map (first_of header)) (omega arith) low
     ∙ put_behind 6 k map (first_of header) (omega (arith, first_long header)) (omega arith)
 
-blank_at : (header : Sector) (k : ℕ) → 1 ≤ k → sector_at (first_of header) k ≡ zero_sector
+blank_at : (header : Sector) (k : ℕ) → 1 ≤ k → sector_or_zero (first_of header) k ≡ zero_sector
 blank_at header k some = put_behind 0 k (header ∷ []) (replicate 22 zero_sector) (omega arith) (omega arith) ∙ all_zero 22 k
 
-in_map : (g : Geometry) (group : ℕ) (header : Sector) (map page head : List Sector) (j : ℕ) → Head g group header map page head → j < 4 → sector_at head (6 + j) ≡ sector_at map j
+in_map : (g : Geometry) (group : ℕ) (header : Sector) (map page head : List Sector) (j : ℕ) → Head g group header map page head → j < 4 → sector_or_zero head (6 + j) ≡ sector_or_zero map j
 in_map g group header map page head j h lt =
     let long = second_long header map h.map_long in
     let long_page = h.page_long in
     let long_map = h.map_long in
-    ap (λ (l : List Sector). sector_at l (6 + j)) h.is
+    ap (λ (l : List Sector). sector_or_zero l (6 + j)) h.is
     ∙ put_before 14 (6 + j) page (with_at 6 map (first_of header)) (omega arith) (omega arith)
     ∙ put_inside 6 j map (first_of header) (omega (arith, first_long header)) (omega arith)
 
-in_page : (g : Geometry) (group : ℕ) (header : Sector) (map page head : List Sector) (j : ℕ) → Head g group header map page head → j < 8 → sector_at head (14 + j) ≡ sector_at page j
+in_page : (g : Geometry) (group : ℕ) (header : Sector) (map page head : List Sector) (j : ℕ) → Head g group header map page head → j < 8 → sector_or_zero head (14 + j) ≡ sector_or_zero page j
 in_page g group header map page head j h lt =
     let long = second_long header map h.map_long in
     let long_page = h.page_long in
-    ap (λ (l : List Sector). sector_at l (14 + j)) h.is
+    ap (λ (l : List Sector). sector_or_zero l (14 + j)) h.is
     ∙ put_inside 14 j page (with_at 6 map (first_of header)) (omega arith) (omega arith)
 
 abbrev Right : Geometry → ℕ → List Sector → ℕ → Type 0
-Right g group head k = sector_at head k ≡ empty_sector g group (2 + k)
+Right g group head k = sector_or_zero head k ≡ empty_sector g group (2 + k)
 
 at_zero : (g : Geometry) (group : ℕ) (header : Sector) (map page head : List Sector) → Head g group header map page head → Right g group head 0
 at_zero g group header map page head h =
@@ -161,14 +161,14 @@ at_map : (g : Geometry) (group : ℕ) (header : Sector) (map page head : List Se
 at_map g group header map page head j h lt =
     let place : 8 + j ≡ 2 + (6 + j) = omega arith in
     in_map g group header map page head j h lt
-    ∙ some_sector g group (8 + j) (sector_at map j) (part j (bitmap (free_set g.blocks []))) (at_bitmap g group j lt) (h.map_is j lt)
+    ∙ some_sector g group (8 + j) (sector_or_zero map j) (part j (bitmap (free_set g.blocks []))) (at_bitmap g group j lt) (h.map_is j lt)
     ∙ ap (empty_sector g group) place
 
 at_pages : (g : Geometry) (group : ℕ) (header : Sector) (map page head : List Sector) (j : ℕ) → Head g group header map page head → j < 8 → Right g group head (14 + j)
 at_pages g group header map page head j h lt =
     let place : 16 + j ≡ 2 + (14 + j) = omega arith in
     in_page g group header map page head j h lt
-    ∙ some_sector g group (16 + j) (sector_at page j) (part j (page_bytes g [] group [])) (at_page g group j lt) (h.page_is j lt)
+    ∙ some_sector g group (16 + j) (sector_or_zero page j) (part j (page_bytes g [] group [])) (at_page g group j lt) (h.page_is j lt)
     ∙ ap (empty_sector g group) place
 
 -- a place that is left zero

@@ -8,13 +8,12 @@ use Rattle.life_bytes.specs.Sectors.{zero_sector}
 use Rattle.disk_model.specs.Disk.{Cell, HasOneImage, IsImage, as_read, settled_as, written}
 use Rattle.disk_model.specs.DiskLaws.{IsTorn, IsTorn-from_image, IsTorn-from_one_image, IsImage-settled_as, as_read-settled_as, as_read-written}
 use Rattle.geometry.specs.declared.shape.Geometry.{Geometry}
-use Rattle.geometry.specs.Places.{group_sectors}
+use Rattle.geometry.specs.Places.{group_sectors, anchor_of}
 use Rattle.geometry.specs.Shape.{IsGeometry}
-use Rattle.geometry.specs.Superblock.{encoding}
+use Rattle.geometry.specs.Superblock.{superblock_encoding}
 use Rattle.sound_image.specs.Places.{bytes_at, sector_in}
 use Rattle.log_image.specs.Anchor.{anchor_sector}
-use Rattle.whole_image.specs.Front.{anchor_of}
-use Rattle.image_make.specs.Empty.{AreMade, IsFinished, AwaitsSuperblock, empty_sector, sector_at}
+use Rattle.image_make.specs.Empty.{AreMade, IsFinished, AwaitsSuperblock, empty_sector, sector_or_zero}
 use Rattle.image_make.specs.Outcome.{IsBlank, LeavesBlank}
 use Rattle.image_make.proofs.Putting.{with_at, length-with_at, put_inside, put_before, put_behind, all_zero}
 use Rattle.image_make.proofs.Places.{at_none, no_sector}
@@ -48,7 +47,7 @@ pub begins_blank : (n : ℕ) (cells : List Cell) → cells ≡ settled_as (repli
 unfolding bytes_at
 begins_blank n cells is = λ image left.
     let same : image ≡ replicate n zero_sector = IsImage-settled_as (replicate n zero_sector) image (subst (λ (c : List Cell). IsImage c image) is left) in
-    ap (λ (l : List Sector). (sector_at l 0).bytes) same ∙ ap (λ (s : Sector). s.bytes) (all_zero n 0)
+    ap (λ (l : List Sector). (sector_or_zero l 0).bytes) same ∙ ap (λ (s : Sector). s.bytes) (all_zero n 0)
 
 pub begins_unmade : (g : Geometry) (n : ℕ) (cells : List Cell) → anchor_of g + 1 + g.ring ≤ n → cells ≡ settled_as (replicate n zero_sector) → AreMade g 0 (as_read cells)
 begins_unmade g n cells enough is =
@@ -56,7 +55,7 @@ begins_unmade g n cells enough is =
     record {
       size = omega (arith, ap length read, length-replicate n zero_sector);
       groups = λ group place lt low. absurd (omega arith);
-      behind = λ s le. ap (λ (l : List Sector). sector_at l s) read ∙ all_zero n s;
+      behind = λ s le. ap (λ (l : List Sector). sector_or_zero l s) read ∙ all_zero n s;
     }
 
 -- ---- one group more
@@ -71,11 +70,11 @@ pub large : (g : Geometry) → IsGeometry g → 512 ≤ group_sectors g
 large g shape = omega (arith, shape.blocks)
 
 abbrev Head : Geometry → ℕ → List Sector → Type 0
-Head g n head = (k : ℕ) → k < 22 → sector_at head k ≡ empty_sector g n (2 + k)
+Head g n head = (k : ℕ) → k < 22 → sector_or_zero head k ≡ empty_sector g n (2 + k)
 
 own_place : (g : Geometry) (n place : ℕ) (head image : List Sector) → IsGeometry g → AreMade g n image → length head ≡ 22 → Head g n head
     → n * group_sectors g + 2 + length head ≤ length image → place < group_sectors g
-    → sector_at (with_at (n * group_sectors g + 2) head image) (n * group_sectors g + place) ≡ empty_sector g n place
+    → sector_or_zero (with_at (n * group_sectors g + 2) head image) (n * group_sectors g + place) ≡ empty_sector g n place
 own_place g n place head image shape made long holds fits low =
     let at : ℕ = n * group_sectors g + 2 in
     elim (cases_lt place 2) [
@@ -86,7 +85,7 @@ own_place g n place head image shape made long holds fits low =
         | inl inside ↦
             let e : at + (place - 2) ≡ n * group_sectors g + place = omega arith in
             let p : 2 + (place - 2) ≡ place = omega arith in
-            ap (sector_at (with_at at head image)) (sym e) ∙ put_inside at (place - 2) head image fits (omega arith)
+            ap (sector_or_zero (with_at at head image)) (sym e) ∙ put_inside at (place - 2) head image fits (omega arith)
             ∙ holds (place - 2) (omega arith) ∙ ap (empty_sector g n) p
         | inr behind ↦
             put_behind at (n * group_sectors g + place) head image fits (omega arith)
@@ -110,7 +109,7 @@ made_more g n head image shape lt made long holds =
             put_before (n * size + 2) (group * size + place) head image fits (omega arith) ∙ made.groups group place less low
         | inr same ↦
             let e : n ≡ group = omega arith in
-            subst (λ (x : ℕ). sector_at (with_at (n * size + 2) head image) (x * size + place) ≡ empty_sector g x place) e
+            subst (λ (x : ℕ). sector_or_zero (with_at (n * size + 2) head image) (x * size + place) ≡ empty_sector g x place) e
             (own_place g n place head image shape made long holds fits low)
       ];
       behind = λ s le.
@@ -132,7 +131,7 @@ awaits_from g image made =
     record {
       size = omega (arith, made.size, length-with_at at pieces image fits);
       groups = λ group place lt low. put_before at (sector_in g group place) pieces image fits (in_groups g group place lt low) ∙ made.groups group place lt low;
-      anchor = let e : at + 0 ≡ at = omega arith in ap (sector_at (with_at at pieces image)) (sym e) ∙ put_inside at 0 pieces image fits (omega arith);
+      anchor = let e : at + 0 ≡ at = omega arith in ap (sector_or_zero (with_at at pieces image)) (sym e) ∙ put_inside at 0 pieces image fits (omega arith);
       ring = λ s gt. put_behind at s pieces image fits (omega arith) ∙ made.behind s (omega arith);
     }
 
@@ -144,9 +143,9 @@ awaits_blank g image shape awaits =
     let least = large g shape in
     let e : 0 * group_sectors g + 0 ≡ 0 = omega arith in
     ap (λ (s : Sector). s.bytes)
-    (ap (sector_at image) (sym e) ∙ awaits.groups 0 0 (omega (arith, shape.groups)) (omega arith) ∙ no_sector g 0 0 (at_none g 0 0 (inl (omega arith))))
+    (ap (sector_or_zero image) (sym e) ∙ awaits.groups 0 0 (omega (arith, shape.groups)) (omega arith) ∙ no_sector g 0 0 (at_none g 0 0 (inl (omega arith))))
 
-pub finished_from : (g : Geometry) (image : List Sector) (sector : Sector) → IsGeometry g → sector.bytes ≡ encoding g → AwaitsSuperblock g image → IsFinished g (with_at 0 (sector ∷ []) image)
+pub finished_from : (g : Geometry) (image : List Sector) (sector : Sector) → IsGeometry g → sector.bytes ≡ superblock_encoding g → AwaitsSuperblock g image → IsFinished g (with_at 0 (sector ∷ []) image)
 finished_from g image sector shape encodes awaits =
     let least = large g shape in
     let room = up_to 0 g.groups (group_sectors g) shape.groups.0 in

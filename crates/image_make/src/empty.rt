@@ -5,12 +5,12 @@ ghost use Rattle.life_bytes.specs.SectorBytes.{bytes_of};
 ghost use Rattle.life_bytes.specs.Sectors.{zero_sector};
 ghost use Rattle.life_limits.specs.declared.TheConstants.{FIRST_DATA_BLOCK, MAX_BLOCKS};
 ghost use Rattle.geometry.specs.Shape.{IsGeometry};
-ghost use Rattle.ag_header.specs.Headers.{encoding as header_encoding};
+ghost use Rattle.ag_header.specs.Headers.{header_encoding};
 ghost use Rattle.free_map.specs.Bitmap.{bitmap};
 ghost use Rattle.sound_image.specs.Places.{part};
 ghost use Rattle.sound_image.specs.Rules.{free_set};
 ghost use Rattle.sound_image.specs.Encoding.{header_for, page_bytes};
-ghost use Rattle.image_make.specs.Empty.{empty_sector, sector_at};
+ghost use Rattle.image_make.specs.Empty.{empty_sector, sector_or_zero};
 
 use ag_header::{Agi, write_agi};
 use free_map::{FreeMap, read_map};
@@ -43,7 +43,7 @@ fn hold_bytes(sector: &Sector)
 
 /// So sectors hold the parts of the bytes that they hold together.
 fn hold_parts(sectors: &[Sector])
-    ensures { (k : ℕ) → k < length sectors.now → (sector_at sectors.now k).bytes ≡ part k (bytes_of sectors.now) }
+    ensures { (k : ℕ) → k < length sectors.now → (sector_or_zero sectors.now k).bytes ≡ part k (bytes_of sectors.now) }
 {
     for sector in sectors {
         hold_bytes(sector);
@@ -67,7 +67,7 @@ fn empty_map(blocks: u32) -> FreeMap
 pub(crate) fn empty_bitmap(blocks: u32) -> [Sector; BITMAP_SECTORS]
     requires some { FIRST_DATA_BLOCK ≤ blocks }
     requires few { blocks ≤ MAX_BLOCKS }
-    ensures { (k : ℕ) → k < 4 → (sector_at result k).bytes ≡ part k (bitmap (free_set blocks [])) }
+    ensures { (k : ℕ) → k < 4 → (sector_or_zero result k).bytes ≡ part k (bitmap (free_set blocks [])) }
 {
     let mut sectors = [Sector::zero(); BITMAP_SECTORS];
     empty_map(blocks).write_map(&mut sectors);
@@ -99,7 +99,7 @@ fn empty_header(g: &Geometry, group: u32) -> Sector
 fn empty_page(g: &Geometry, group: u32) -> [Sector; PAGE_SECTORS]
     requires shape { IsGeometry g.now }
     requires inside { group < g.now.groups }
-    ensures { (k : ℕ) → k < 8 → (sector_at result k).bytes ≡ part k (page_bytes g.now [] group []) }
+    ensures { (k : ℕ) → k < 8 → (sector_or_zero result k).bytes ≡ part k (page_bytes g.now [] group []) }
 {
     let first = group * (g.blocks * BLOCK_SECTORS) + FIRST_PAGE_BLOCK * BLOCK_SECTORS;
     let mut page = [Sector::zero(); PAGE_SECTORS];
@@ -130,9 +130,9 @@ pub(crate) fn empty_head(
 ) -> [Sector; HEAD_SECTORS]
     requires shape { IsGeometry g.now }
     requires inside { group < g.now.groups }
-    requires bitmap { (k : ℕ) → k < 4 → (sector_at free_blocks.now k).bytes ≡ part k (bitmap (free_set g.now.blocks [])) }
+    requires bitmap { (k : ℕ) → k < 4 → (sector_or_zero free_blocks.now k).bytes ≡ part k (bitmap (free_set g.now.blocks [])) }
     ensures many { length result ≡ 22 }
-    ensures each { (k : ℕ) → k < 22 → sector_at result k ≡ empty_sector g.now group (2 + k) }
+    ensures each { (k : ℕ) → k < 22 → sector_or_zero result k ≡ empty_sector g.now group (2 + k) }
 {
     let mut head = blank_head();
     put(&mut head, 0, &[empty_header(g, group)]);

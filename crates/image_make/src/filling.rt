@@ -4,8 +4,8 @@ ghost use Rattle.std.specs.Prelude.{◌≡◌, ◌+◌, ◌++◌, ◌<◌, ◌�
 ghost use Rattle.life_ports.specs.Faults.{HasCause};
 ghost use Rattle.disk_model.specs.Disk.{as_read};
 ghost use Rattle.geometry.specs.Shape.{IsGeometry};
+ghost use Rattle.geometry.specs.Places.{anchor_of};
 ghost use Rattle.log_image.specs.Anchor.{anchor_sector};
-ghost use Rattle.whole_image.specs.Front.{anchor_of};
 ghost use Rattle.image_make.specs.Empty.{AreMade, AwaitsSuperblock};
 ghost use Rattle.image_make.specs.Outcome.{IsBlank, LeavesBlank, LeavesOnly};
 

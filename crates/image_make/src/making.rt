@@ -5,7 +5,7 @@ ghost use Rattle.life_bytes.specs.Sectors.{zero_sector};
 ghost use Rattle.life_ports.specs.Faults.{NeverFalls, Rose};
 ghost use Rattle.disk_model.specs.Disk.{HasOneImage, as_read, settled_as};
 ghost use Rattle.geometry.specs.Shape.{IsGeometry};
-ghost use Rattle.whole_image.specs.Front.{anchor_of};
+ghost use Rattle.geometry.specs.Places.{anchor_of};
 ghost use Rattle.image_make.specs.Empty.{AreMade, IsFinished, AwaitsSuperblock};
 ghost use Rattle.image_make.specs.Outcome.{IsBlank, IsBlankOrEmpty, IsEmptyImage, LeavesBlank, LeavesOnly};
 

@@ -21,7 +21,7 @@ use Rattle.life_bytes.specs.SectorBytes.{bytes_of}
 use Rattle.free_map.specs.Bitmap.{bitmap}
 use Rattle.sound_image.specs.Places.{bytes_at, part, sector_in}
 use Rattle.image_rules.specs.Shown.{Shows}
-use Rattle.free_map.specs.Blocks.{is_free}
+use Rattle.free_map.specs.Blocks.{is_block_free}
 use Rattle.sound_image.specs.Reading.{inode_at, inode_read, row_at, records_of, group_read, chunk_read}
 use Rattle.sound_image.specs.Rules.{IsIn, IsBitmapRight, free_set}
 use Rattle.image_rules.specs.Gathered.{IsLeft, InNoChunk}
@@ -157,7 +157,7 @@ pub left_is_free : (g : Geometry) (image : List Sector) (group bound : ℕ) (chu
 unfolding free_set
 left_is_free g image group bound chunks free same leaf each only none left =
     fill_by_all (is_free_block g.blocks (group_read g image group)) free g.blocks false left.long (λ b low.
-    same_bool (is_free free b) (is_free_block g.blocks (group_read g image group) b)
+    same_bool (is_block_free free b) (is_free_block g.blocks (group_read g image group) b)
     (λ yes.
     let was = left.free b yes in
     says_free g.blocks (group_read g image group) b was.0 was.1 (unused g image group b chunks same leaf each was.2 (λ agino has. elim (cases_lt agino bound) [

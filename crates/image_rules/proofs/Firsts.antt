@@ -3,7 +3,7 @@ use Rattle.std.proofs.Common.{◌≡◌, ◌<◌, ◌≤◌, ◌+◌, ℕ, Bool,
 use Rattle.std.proofs.lemmas.Bool.{cases_lt}
 use Rattle.life_bytes.specs.declared.sector.Sector.{Sector}
 use Rattle.geometry.specs.declared.shape.Geometry.{Geometry}
-use Rattle.sound_image.specs.Damage.{Rule, header, tree, core, fork, blocks, bitmap, pointers, lists, number_of, HoldsIn}
+use Rattle.sound_image.specs.Damage.{Rule, header, tree, core, fork, blocks, bitmap, pointers, lists, groups_rule_number, HoldsIn}
 use Rattle.sound_image.specs.Places.{sector_in}
 use Rattle.sound_image.specs.Reading.{page_sector}
 use Rattle.sound_image.specs.Rules.{IsHeaderRight, IsPageRight, AreCountsRight, IsBitmapRight}
@@ -14,7 +14,7 @@ use Rattle.image_rules.specs.Gathered.{AllGathered, BitmapFault, CoreFault, Firs
 use Rattle.image_rules.proofs.Gathering.{row_none}
 
 -- the rules before one
-before_header : (P : Rule → Type 0) (other : Rule) → number_of other < 5 → P other
+before_header : (P : Rule → Type 0) (other : Rule) → groups_rule_number other < 5 → P other
 before_header P header lt = absurd (omega arith)
 before_header P tree lt = absurd (omega arith)
 before_header P core lt = absurd (omega arith)
@@ -24,7 +24,7 @@ before_header P bitmap lt = absurd (omega arith)
 before_header P pointers lt = absurd (omega arith)
 before_header P lists lt = absurd (omega arith)
 
-before_tree : (P : Rule → Type 0) → P header → (other : Rule) → number_of other < 6 → P other
+before_tree : (P : Rule → Type 0) → P header → (other : Rule) → groups_rule_number other < 6 → P other
 before_tree P a header lt = a
 before_tree P a tree lt = absurd (omega arith)
 before_tree P a core lt = absurd (omega arith)
@@ -64,7 +64,7 @@ counts_first g image group s right page place wrong = record {
 
 -- ---- the inodes
 
-before_core : (P : Rule → Type 0) → P header → P tree → (other : Rule) → number_of other < 7 → P other
+before_core : (P : Rule → Type 0) → P header → P tree → (other : Rule) → groups_rule_number other < 7 → P other
 before_core P a b header lt = a
 before_core P a b tree lt = b
 before_core P a b core lt = absurd (omega arith)
@@ -74,7 +74,7 @@ before_core P a b bitmap lt = absurd (omega arith)
 before_core P a b pointers lt = absurd (omega arith)
 before_core P a b lists lt = absurd (omega arith)
 
-before_fork : (P : Rule → Type 0) → P header → P tree → P core → (other : Rule) → number_of other < 8 → P other
+before_fork : (P : Rule → Type 0) → P header → P tree → P core → (other : Rule) → groups_rule_number other < 8 → P other
 before_fork P a b c header lt = a
 before_fork P a b c tree lt = b
 before_fork P a b c core lt = c
@@ -84,7 +84,7 @@ before_fork P a b c bitmap lt = absurd (omega arith)
 before_fork P a b c pointers lt = absurd (omega arith)
 before_fork P a b c lists lt = absurd (omega arith)
 
-before_blocks : (P : Rule → Type 0) → P header → P tree → P core → P fork → (other : Rule) → number_of other < 9 → P other
+before_blocks : (P : Rule → Type 0) → P header → P tree → P core → P fork → (other : Rule) → groups_rule_number other < 9 → P other
 before_blocks P a b c d header lt = a
 before_blocks P a b c d tree lt = b
 before_blocks P a b c d core lt = c
@@ -94,7 +94,7 @@ before_blocks P a b c d bitmap lt = absurd (omega arith)
 before_blocks P a b c d pointers lt = absurd (omega arith)
 before_blocks P a b c d lists lt = absurd (omega arith)
 
-before_bitmap : (P : Rule → Type 0) → P header → P tree → P core → P fork → P blocks → (other : Rule) → number_of other < 10 → P other
+before_bitmap : (P : Rule → Type 0) → P header → P tree → P core → P fork → P blocks → (other : Rule) → groups_rule_number other < 10 → P other
 before_bitmap P a b c d e header lt = a
 before_bitmap P a b c d e tree lt = b
 before_bitmap P a b c d e core lt = c
@@ -174,7 +174,7 @@ pub blocks_hold : (g : Geometry) (image : List Sector) (group : ℕ) (map : List
 blocks_hold g image group map all agino row e =
     elim (cases_lt agino all.bound) [ inl lt ↦ all.gathered.blocks refl agino lt row e | inr ge ↦ let no = row_none g image group agino (all.none agino ge) in cc (no, e) ]
 
-pub up_to_bitmap : (P : Rule → Type 0) → P header → P tree → P core → P fork → P blocks → P bitmap → (other : Rule) → number_of other ≤ 10 → P other
+pub up_to_bitmap : (P : Rule → Type 0) → P header → P tree → P core → P fork → P blocks → P bitmap → (other : Rule) → groups_rule_number other ≤ 10 → P other
 up_to_bitmap P u v w x y z header le = u
 up_to_bitmap P u v w x y z tree le = v
 up_to_bitmap P u v w x y z core le = w

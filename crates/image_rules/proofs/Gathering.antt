@@ -13,14 +13,14 @@ use Rattle.life_table.specs.declared.types.Row.{Row}
 use Rattle.life_table.specs.declared.table.Inode.{Inode}
 use Rattle.life_table.specs.Space.{times, row_blocks}
 use Rattle.life_bytes.specs.Sectors.{zero_sector}
+use Rattle.life_bytes.specs.Bits.{is_set}
 use Rattle.inobt_leaf.specs.declared.chunk.ChunkRec.{ChunkRec}
-use Rattle.inobt_leaf.specs.Masks.{is_set}
 use Rattle.sound_image.specs.Places.{sector_in, bytes_at}
 use Rattle.sound_image.specs.Reading.{inode_at, inode_read, row_at}
 use Rattle.sound_image.specs.Rules.{IsCoreRight, IsForkRight, AreBlocksAlone, IsIn}
-use Rattle.image_rules.specs.Gathered.{Gathered, IsLeft, CoreHolds, ForkHolds, BlocksHold, ForksBelow, BlocksBelow, IsNext, IsNextChunk, row_unless}
+use Rattle.image_rules.specs.Gathered.{Gathered, IsLeft, CoreHolds, ForkHolds, BlocksHold, ForksBelow, BlocksBelow, IsNextInode, IsNextChunk, row_unless}
 use Rattle.image_rules.specs.Shown.{Shows}
-use Rattle.image_rules.specs.Taking.{TakesAll, IsCrowded, Adds, all, crowded}
+use Rattle.image_rules.specs.Taking.{TakesAll, SharesBlock, Adds, all, crowded}
 use Rattle.image_rules.proofs.Takes.{TakesAll-none, times_none, times_cons}
 
 pub row_found : (g : Geometry) (image : List Sector) (group agino : ℕ) (inode : Inode) → inode_at g image group agino ≡ Some inode → row_at g image group agino ≡ inode.row
@@ -109,7 +109,7 @@ alone g image group n map new row left takes = record {
 }
 
 -- and not where one was not, or stands there twice
-not_alone : (g : Geometry) (image : List Sector) (group n : ℕ) (map : List Bool) (row : Row) → IsLeft g image group n map → IsCrowded map row.blocks
+not_alone : (g : Geometry) (image : List Sector) (group n : ℕ) (map : List Bool) (row : Row) → IsLeft g image group n map → SharesBlock map row.blocks
     → All (λ (block : ℕ). (24 ≤ block) × (block < g.blocks)) row.blocks → AreBlocksAlone g image group n row → ⊥
 not_alone g image group n map row left crowd data_blocks right =
     let b : ℕ = crowd.block in
@@ -225,7 +225,7 @@ row_read g image group chunk i = refl
 
 pub next_of : (g : Geometry) (image : List Sector) (group bound : ℕ) (chunk : ChunkRec) (sectors : List Sector) (i : ℕ) (d : Sector) (free : Bool) → IsNextChunk g image group bound chunk
     → Shows image (sector_in g group chunk.start) sectors → length sectors ≡ 64 → i < 64 → free ≡ is_set chunk.mask i
-    → IsNext g image group (chunk.start + i) (chunk.start + i) (get_or sectors i d).bytes free
+    → IsNextInode g image group (chunk.start + i) (chunk.start + i) (get_or sectors i d).bytes free
 next_of g image group bound chunk sectors i d free next shows many low mask = record {
   shown = ap (bytes_at image) (sector_next g group chunk.start i) ∙ shows.each i (omega arith) ∙ bytes_of_item sectors i d (omega arith);
   inode = inode_read g image group chunk i;

@@ -3,7 +3,7 @@ use Rattle.std.proofs.Common.{◌≡◌, ◌<◌, ◌≤◌, ◌+◌, ℕ, List,
 use Rattle.std.proofs.lemmas.Bool.{cases_lt}
 use Rattle.life_bytes.specs.declared.sector.Sector.{Sector}
 use Rattle.geometry.specs.declared.shape.Geometry.{Geometry}
-use Rattle.sound_image.specs.Damage.{Rule, number_of, HoldsIn, BreaksIn, FirstDamage}
+use Rattle.sound_image.specs.Damage.{Rule, groups_rule_number, HoldsIn, BreaksIn, FirstGroupsDamage}
 use Rattle.image_rules.specs.declared.fault.Damage.{Damage}
 use Rattle.image_rules.specs.Faults.{AllHold, AreChecked, IsFirstBelow, IsFirstIn, IsChecked, IsEarlier, first_rule, second_rule, first_sector, second_sector}
 
@@ -12,7 +12,7 @@ abbrev pub NotBoth : Type 0
 NotBoth = (g : Geometry) (image : List Sector) (rule : Rule) (group s : ℕ) → HoldsIn g image rule group → BreaksIn g image rule group s → ⊥
 
 abbrev pub OneRule : Type 0
-OneRule = (a b : Rule) → number_of a ≡ number_of b → a ≡ b
+OneRule = (a b : Rule) → groups_rule_number a ≡ groups_rule_number b → a ≡ b
 
 -- up to and with a group
 up_to : (P : ℕ → Type 0) (n k : ℕ) → ((j : ℕ) → j < n → P j) → P n → k < n + 1 → P k
@@ -20,10 +20,10 @@ up_to P n k below at lt = elim (cases_lt k n) [ inl l ↦ below k l | inr ge ↦
 
 -- the groups before hold where damage of theirs is by a later rule, or there is none
 BelowHolds : Geometry → List Sector → ℕ → ℕ → Type 0
-BelowHolds g image n number = (other : Rule) → number_of other < number → (group : ℕ) → group < n → HoldsIn g image other group
+BelowHolds g image n number = (other : Rule) → groups_rule_number other < number → (group : ℕ) → group < n → HoldsIn g image other group
 
 -- the damage of the groups before stays the first
-keep : NotBoth → (g : Geometry) (image : List Sector) (n number s : ℕ) (x : IsFirstBelow g image n number s) → ((other : Rule) → number_of other < number → HoldsIn g image other n)
+keep : NotBoth → (g : Geometry) (image : List Sector) (n number s : ℕ) (x : IsFirstBelow g image n number s) → ((other : Rule) → groups_rule_number other < number → HoldsIn g image other n)
     → ((other : ℕ) → BreaksIn g image x.rule n other → s ≤ other) → IsFirstBelow g image (n + 1) number s
 keep not_both g image n number s x holds low = record {
   rule = x.rule;
@@ -36,7 +36,7 @@ keep not_both g image n number s x holds low = record {
 }
 
 -- that of the group becomes the first
-change : (g : Geometry) (image : List Sector) (n number s : ℕ) (y : IsFirstIn g image n number s) → ((other : Rule) → number_of other < number → (group : ℕ) → group < n → HoldsIn g image other group)
+change : (g : Geometry) (image : List Sector) (n number s : ℕ) (y : IsFirstIn g image n number s) → ((other : Rule) → groups_rule_number other < number → (group : ℕ) → group < n → HoldsIn g image other group)
     → ((k other : ℕ) → k < n → BreaksIn g image y.rule k other → s ≤ other) → IsFirstBelow g image (n + 1) number s
 change g image n number s y holds low = record {
   rule = y.rule;
@@ -77,7 +77,7 @@ none_before not_both g image n (Some b) x y =
     change g image n b.rule b.sector y (λ other less group small. x group small other) (λ k other small bad. absurd (not_both g image y.rule k other (x k small y.rule) bad))
 
 -- all groups
-pub whole : (g : Geometry) (image : List Sector) (number s : ℕ) → IsFirstBelow g image g.groups number s → (rule : Rule) × (number_of rule ≡ number) × FirstDamage g image rule s
+pub whole : (g : Geometry) (image : List Sector) (number s : ℕ) → IsFirstBelow g image g.groups number s → (rule : Rule) × (groups_rule_number rule ≡ number) × FirstGroupsDamage g image rule s
 whole g image number s x = (
   x.rule,
   x.numbered,

@@ -4,7 +4,7 @@ use Rattle.std.specs.List.{flat_map}
 use Rattle.life_bytes.specs.declared.sector.Sector.{Sector}
 use Rattle.geometry.specs.declared.shape.Geometry.{Geometry}
 use Rattle.inode_core.specs.declared.shape.Core.{Core}
-use Rattle.inode_core.specs.Cores.{Encodes}
+use Rattle.inode_core.specs.Cores.{EncodesCore}
 use Rattle.inode_core.specs.Reading.{CoresAreRead, core_in}
 use Rattle.extent_fork.specs.declared.extent.Extent.{Extent}
 use Rattle.extent_fork.specs.Forks.{HasFork}
@@ -16,18 +16,18 @@ use Rattle.sound_image.specs.Reading.{core_of, blocks_in}
 use Rattle.sound_image.specs.Rules.{IsCoreRight, IsForkRight}
 
 pub core_read : (l : CoresAreRead) (g : Geometry) (image : List Sector) (group agino : ℕ) (bytes : List ℕ) (core : Core) → bytes_at image (sector_in g group agino) ≡ bytes
-    → length bytes ≡ 512 → length g.uuid ≡ 16 → Encodes bytes (number_in group agino) g.uuid core → core_of g image group agino ≡ core
+    → length bytes ≡ 512 → length g.uuid ≡ 16 → EncodesCore bytes (number_in group agino) g.uuid core → core_of g image group agino ≡ core
 unfolding core_of
 core_read l g image group agino bytes core shown long wide encodes = ap core_in shown ∙ l.read bytes g.uuid (number_in group agino) core long wide encodes
 
 pub core_right : (l : CoresAreRead) (g : Geometry) (image : List Sector) (group agino : ℕ) (bytes : List ℕ) (core : Core) (inode : Inode) → bytes_at image (sector_in g group agino) ≡ bytes
-    → length bytes ≡ 512 → length g.uuid ≡ 16 → Encodes bytes (number_in group agino) g.uuid core → core.live ≡ is_some inode.row
+    → length bytes ≡ 512 → length g.uuid ≡ 16 → EncodesCore bytes (number_in group agino) g.uuid core → core.live ≡ is_some inode.row
     → IsCoreRight g image group agino inode × core_of g image group agino ≡ core
 core_right l g image group agino bytes core inode shown long wide encodes live =
     let e : core_of g image group agino ≡ core = core_read l g image group agino bytes core shown long wide encodes in (
       record {
-        encoded = subst (λ (c : Core). Encodes (bytes_at image (sector_in g group agino)) (number_in group agino) g.uuid c) (sym e)
-            (subst (λ (b : List ℕ). Encodes b (number_in group agino) g.uuid core) (sym shown) encodes);
+        encoded = subst (λ (c : Core). EncodesCore (bytes_at image (sector_in g group agino)) (number_in group agino) g.uuid c) (sym e)
+            (subst (λ (b : List ℕ). EncodesCore b (number_in group agino) g.uuid core) (sym shown) encodes);
         live = ap (λ (c : Core). c.live) e ∙ live;
       },
       e,
@@ -35,8 +35,8 @@ core_right l g image group agino bytes core inode shown long wide encodes live =
 
 -- a right core is encoded by the sector's bytes
 pub core_encoded : (g : Geometry) (image : List Sector) (group agino : ℕ) (bytes : List ℕ) (inode : Inode) → bytes_at image (sector_in g group agino) ≡ bytes
-    → IsCoreRight g image group agino inode → Encodes bytes (number_in group agino) g.uuid (core_of g image group agino)
-core_encoded g image group agino bytes inode shown right = subst (λ (b : List ℕ). Encodes b (number_in group agino) g.uuid (core_of g image group agino)) shown right.encoded
+    → IsCoreRight g image group agino inode → EncodesCore bytes (number_in group agino) g.uuid (core_of g image group agino)
+core_encoded g image group agino bytes inode shown right = subst (λ (b : List ℕ). EncodesCore b (number_in group agino) g.uuid (core_of g image group agino)) shown right.encoded
 
 pub blocks_read : (l : ForksAreRead) (g : Geometry) (image : List Sector) (group agino : ℕ) (bytes : List ℕ) (core : Core) (runs : List Extent)
     → bytes_at image (sector_in g group agino) ≡ bytes → core_of g image group agino ≡ core → group < 16 → core.extents ≤ 21 → HasFork bytes core.extents group runs

@@ -10,7 +10,7 @@ use Rattle.life_bytes.specs.declared.sector.Sector.{Sector}
 use Rattle.geometry.specs.declared.shape.Geometry.{Geometry}
 use Rattle.life_table.specs.declared.types.Row.{Row}
 use Rattle.sound_image.specs.Reading.{core_of, inode_at, row_at}
-use Rattle.image_rules.specs.Listing.{next_of, IsOrphan, IsKept, AreOrphans, EndsThere, PointingBelow, Noted, AllNoted}
+use Rattle.image_rules.specs.Listing.{next_pointer_of, IsOrphan, IsUnlinkedEntry, AreOrphans, EndsThere, PointingBelow, Noted, AllNoted}
 use Rattle.image_rules.proofs.Gathering.{row_none}
 
 pub here_at : (k q : ℕ) → k ≡ q → is_at (nat_cmp k) q ≡ true
@@ -21,13 +21,13 @@ not_at k q ne = unsigned_tied k q ∙ ne_eqb k q ne
 
 -- one entry of a map is set
 abbrev pub Sets : List (ℕ × ℕ) → List (ℕ × ℕ) → ℕ → Option ℕ → Type 0
-Sets old new k w = (q : ℕ) → next_of new q ≡ cond (is_at (nat_cmp k) q) w (next_of old q)
+Sets old new k w = (q : ℕ) → next_pointer_of new q ≡ cond (is_at (nat_cmp k) q) w (next_pointer_of old q)
 
-pub set_here : (old new : List (ℕ × ℕ)) (k q : ℕ) (w : Option ℕ) → Sets old new k w → k ≡ q → next_of new q ≡ w
-set_here old new k q w sets e = sets q ∙ cond-true (is_at (nat_cmp k) q) w (next_of old q) (here_at k q e)
+pub set_here : (old new : List (ℕ × ℕ)) (k q : ℕ) (w : Option ℕ) → Sets old new k w → k ≡ q → next_pointer_of new q ≡ w
+set_here old new k q w sets e = sets q ∙ cond-true (is_at (nat_cmp k) q) w (next_pointer_of old q) (here_at k q e)
 
-pub set_other : (old new : List (ℕ × ℕ)) (k q : ℕ) (w : Option ℕ) → Sets old new k w → k ≢ q → next_of new q ≡ next_of old q
-set_other old new k q w sets ne = sets q ∙ cond-false (is_at (nat_cmp k) q) w (next_of old q) (not_at k q ne)
+pub set_other : (old new : List (ℕ × ℕ)) (k q : ℕ) (w : Option ℕ) → Sets old new k w → k ≢ q → next_pointer_of new q ≡ next_pointer_of old q
+set_other old new k q w sets ne = sets q ∙ cond-false (is_at (nat_cmp k) q) w (next_pointer_of old q) (not_at k q ne)
 
 pub orphan_of : (g : Geometry) (image : List Sector) (group agino : ℕ) (row : Row) → row_at g image group agino ≡ Some row → row.links ≡ 0 → IsOrphan g image group agino
 orphan_of g image group agino row found zero = subst (λ (o : Option Row). IsSomeAnd o (λ row. row.links ≡ 0)) (sym found) zero
@@ -47,7 +47,7 @@ orphans_more g image group n next old new row sets found zero points ne was = re
   held = λ agino other at. elim (cases_eq n agino) [
     | inl e ↦
         let put : Some next ≡ Some other = sym (set_here old new n agino (Some next) sets e) ∙ at in
-        subst (λ (a : ℕ). IsKept g image group a other) e (record { some = ne; orphan = orphan_of g image group n row found zero; points = points ∙ same_Some next other put })
+        subst (λ (a : ℕ). IsUnlinkedEntry g image group a other) e (record { some = ne; orphan = orphan_of g image group n row found zero; points = points ∙ same_Some next other put })
     | inr absent ↦ was.held agino other (sym (set_other old new n agino (Some next) sets absent) ∙ at)
   ];
   none = λ agino lt absent. elim (cases_eq n agino) [
@@ -136,7 +136,7 @@ Noted-wider g image group n m nexts pointing le none was = record {
 -- ---- once no inode is left
 
 pub all_kept : (g : Geometry) (image : List Sector) (group : ℕ) (nexts : List (ℕ × ℕ)) (pointing : Option ℕ) → AllNoted g image group nexts pointing
-    → (agino : ℕ) → next_of nexts agino ≡ None → IsOrphan g image group agino → ⊥
+    → (agino : ℕ) → next_pointer_of nexts agino ≡ None → IsOrphan g image group agino → ⊥
 all_kept g image group nexts pointing all agino absent orphan =
     elim (cases_lt agino all.bound) [
       | inl lt ↦ all.noted.orphans.none agino lt absent orphan
@@ -151,9 +151,9 @@ all_end g image group nexts all agino row e ne =
     ]
 
 -- the next inode is not kept yet
-pub absent_here : (g : Geometry) (image : List Sector) (group n : ℕ) (nexts : List (ℕ × ℕ)) (pointing : Option ℕ) → Noted g image group n nexts pointing → next_of nexts n ≡ None
+pub absent_here : (g : Geometry) (image : List Sector) (group n : ℕ) (nexts : List (ℕ × ℕ)) (pointing : Option ℕ) → Noted g image group n nexts pointing → next_pointer_of nexts n ≡ None
 absent_here g image group n nexts pointing was =
-    elim (none_or_some (next_of nexts n)) [ inl e ↦ e | inr found ↦ let lt = was.orphans.low n found.0 found.1 in absurd (omega arith) ]
+    elim (none_or_some (next_pointer_of nexts n)) [ inl e ↦ e | inr found ↦ let lt = was.orphans.low n found.0 found.1 in absurd (omega arith) ]
   where
     none_or_some : (o : Option ℕ) → (o ≡ None) ⊎ ((x : ℕ) × o ≡ Some x)
     none_or_some None = inl refl

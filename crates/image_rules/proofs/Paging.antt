@@ -6,7 +6,7 @@ use Rattle.life_bytes.specs.SectorBytes.{bytes_of}
 use Rattle.geometry.specs.declared.shape.Geometry.{Geometry}
 use Rattle.inobt_leaf.specs.declared.chunk.ChunkRec.{ChunkRec}
 use Rattle.inobt_leaf.specs.Chunks.{IsLeaf}
-use Rattle.inobt_leaf.specs.Pages.{encoding, chunks_in}
+use Rattle.inobt_leaf.specs.Pages.{page_encoding, chunks_in}
 use Rattle.inobt_leaf.specs.PageLaws.{PagesAreRead}
 use Rattle.sound_image.specs.Places.{bytes_at, bytes_from, sector_in}
 use Rattle.sound_image.specs.Reading.{header_of, page_sector, records_of}
@@ -31,17 +31,17 @@ shown_bytes image s n sectors shows long = ap (λ (k : ℕ). flat_map (bytes_at 
 
 -- the records that a page with the leaf's bytes gives are the leaf's
 pub records_read : (l : PagesAreRead) (g : Geometry) (image : List Sector) (group at : ℕ) (bytes : List ℕ) (leaf : List ChunkRec) → bytes_from image (page_sector g image group) 8 ≡ bytes
-    → length g.uuid ≡ 16 → IsLeaf leaf → bytes ≡ encoding leaf group at g.uuid → records_of g image group ≡ leaf
+    → length g.uuid ≡ 16 → IsLeaf leaf → bytes ≡ page_encoding leaf group at g.uuid → records_of g image group ≡ leaf
 unfolding records_of
 records_read l g image group at bytes leaf shown wide is encoded = ap chunks_in (shown ∙ encoded) ∙ l.read leaf group at g.uuid is wide
 
 pub page_right : (l : PagesAreRead) (g : Geometry) (image : List Sector) (group : ℕ) (bytes : List ℕ) (leaf : List ChunkRec) → bytes_from image (page_sector g image group) 8 ≡ bytes
-    → length g.uuid ≡ 16 → IsLeaf leaf → bytes ≡ encoding leaf group (page_sector g image group) g.uuid → All (IsInData g.blocks) leaf → IsPageRight g image group × records_of g image group ≡ leaf
+    → length g.uuid ≡ 16 → IsLeaf leaf → bytes ≡ page_encoding leaf group (page_sector g image group) g.uuid → All (IsInData g.blocks) leaf → IsPageRight g image group × records_of g image group ≡ leaf
 page_right l g image group bytes leaf shown wide is encoded within =
     let e : records_of g image group ≡ leaf = records_read l g image group (page_sector g image group) bytes leaf shown wide is encoded in (
       record {
         leaf = subst IsLeaf (sym e) is;
-        encoded = shown ∙ encoded ∙ ap (λ (cs : List ChunkRec). encoding cs group (page_sector g image group) g.uuid) (sym e);
+        encoded = shown ∙ encoded ∙ ap (λ (cs : List ChunkRec). page_encoding cs group (page_sector g image group) g.uuid) (sym e);
         in_data = subst (All (IsInData g.blocks)) (sym e) within;
       },
       e,
@@ -53,13 +53,13 @@ page_place g image group root e = ap (λ (r : ℕ). group * (g.blocks * 8) + 8 *
 
 -- a right page is the page of the group's records
 pub page_encoded : (g : Geometry) (image : List Sector) (group at : ℕ) (bytes : List ℕ) → bytes_from image (page_sector g image group) 8 ≡ bytes → page_sector g image group ≡ at
-    → IsPageRight g image group → bytes ≡ encoding (records_of g image group) group at g.uuid
+    → IsPageRight g image group → bytes ≡ page_encoding (records_of g image group) group at g.uuid
 page_encoded g image group at bytes shown place right =
-    sym shown ∙ right.encoded ∙ ap (λ (s : ℕ). encoding (records_of g image group) group s g.uuid) place
+    sym shown ∙ right.encoded ∙ ap (λ (s : ℕ). page_encoding (records_of g image group) group s g.uuid) place
 
 -- a leaf that is read where its page is right has its chunks among the data blocks
 pub read_in_data : (l : PagesAreRead) (g : Geometry) (image : List Sector) (group at : ℕ) (bytes : List ℕ) (leaf : List ChunkRec) → bytes_from image (page_sector g image group) 8 ≡ bytes
-    → length g.uuid ≡ 16 → IsLeaf leaf → bytes ≡ encoding leaf group at g.uuid → IsPageRight g image group → All (IsInData g.blocks) leaf
+    → length g.uuid ≡ 16 → IsLeaf leaf → bytes ≡ page_encoding leaf group at g.uuid → IsPageRight g image group → All (IsInData g.blocks) leaf
 read_in_data l g image group at bytes leaf shown wide is encoded right =
     subst (All (IsInData g.blocks)) (records_read l g image group at bytes leaf shown wide is encoded) right.in_data
 

@@ -6,12 +6,12 @@ use Rattle.life_limits.specs.declared.TheConstants.{BUCKETS, NO_INODE}
 use Rattle.life_bytes.specs.declared.sector.Sector.{Sector}
 use Rattle.geometry.specs.declared.shape.Geometry.{Geometry}
 use Rattle.life_table.specs.declared.types.Row.{Row}
-use Rattle.sound_image.specs.Damage.{Rule, header, tree, core, fork, blocks, bitmap, pointers, lists, number_of, HoldsIn}
+use Rattle.sound_image.specs.Damage.{Rule, header, tree, core, fork, blocks, bitmap, pointers, lists, groups_rule_number, HoldsIn}
 use Rattle.sound_image.specs.Places.{sector_in}
 use Rattle.sound_image.specs.Reading.{header_of, core_of, row_at}
 use Rattle.sound_image.specs.Rules.{AreMembers, IsNewMember, IsMet, IsListed, holder, pointer}
 use Rattle.image_rules.specs.Faults.{IsFirstIn, SpaceHolds}
-use Rattle.image_rules.specs.Listing.{next_of, IsOrphan, EndsThere, PointingBelow, AllNoted, AreUnmet, IsWalked, IsWrongAt, IsLeastWrong, WalkedBelow, Takes, IsLeast}
+use Rattle.image_rules.specs.Listing.{next_pointer_of, IsOrphan, EndsThere, PointingBelow, AllNoted, AreUnmet, IsWalked, IsWrongAt, IsLeastWrong, WalkedBelow, Takes, IsLesser}
 use Rattle.image_rules.proofs.Firsts.{in_order}
 use Rattle.image_rules.proofs.Noting.{all_kept, all_end, orphan_of}
 use Rattle.image_rules.proofs.Walking.{none_or_some}
@@ -74,7 +74,7 @@ moves g image group bucket at place next old new was own takes =
       held = next_holder g image group bucket n ∙ ap (sector_in g group) was.here;
       unmet = record {
         held = λ agino other mine is. elim (cases_eq agino at) [
-          | inl e ↦ absurd (none_some other (sym takes.gone ∙ ap (next_of new) (sym e) ∙ is))
+          | inl e ↦ absurd (none_some other (sym takes.gone ∙ ap (next_pointer_of new) (sym e) ∙ is))
           | inr ne ↦
               let old_kept = was.unmet.held agino other mine (sym (takes.others agino ne) ∙ is) in (
                 old_kept.0,
@@ -97,7 +97,7 @@ arrives g image group bucket at place nexts was end = record { count = was.count
 
 -- the pointer is wrong
 pub strays : (g : Geometry) (image : List Sector) (group bucket at place : ℕ) (nexts : List (ℕ × ℕ)) → IsAt g image group bucket at place nexts → at ≢ NO_INODE
-    → (at % BUCKETS ≡ bucket → next_of nexts at ≡ None) → IsWrongAt g image group bucket place
+    → (at % BUCKETS ≡ bucket → next_pointer_of nexts at ≡ None) → IsWrongAt g image group bucket place
 strays g image group bucket at place nexts was no_end none = record {
   count = was.count;
   wrong = record {
@@ -134,7 +134,7 @@ one_wrong g image group bucket a b x y =
     ]
 
 -- a walk of another bucket changes nothing
-walked_still : (g : Geometry) (image : List Sector) (group bucket other : ℕ) (old new : List (ℕ × ℕ)) → bucket ≢ other → ((agino : ℕ) → agino % BUCKETS ≢ other → next_of new agino ≡ next_of old agino)
+walked_still : (g : Geometry) (image : List Sector) (group bucket other : ℕ) (old new : List (ℕ × ℕ)) → bucket ≢ other → ((agino : ℕ) → agino % BUCKETS ≢ other → next_pointer_of new agino ≡ next_pointer_of old agino)
     → IsWalked g image group bucket old → IsWalked g image group bucket new
 walked_still g image group bucket other old new ne same was = record {
   count = was.count;
@@ -146,15 +146,15 @@ walked_still g image group bucket other old new ne same was = record {
   };
 }
 
-pub unmet_still : (g : Geometry) (image : List Sector) (group bucket : ℕ) (old new : List (ℕ × ℕ)) → ((agino : ℕ) → agino % BUCKETS ≡ bucket → next_of new agino ≡ next_of old agino)
+pub unmet_still : (g : Geometry) (image : List Sector) (group bucket : ℕ) (old new : List (ℕ × ℕ)) → ((agino : ℕ) → agino % BUCKETS ≡ bucket → next_pointer_of new agino ≡ next_pointer_of old agino)
     → AreUnmet g image group bucket 0 old → AreUnmet g image group bucket 0 new
 unmet_still g image group bucket old new same was = record {
   held = λ agino next mine is. was.held agino next mine (sym (same agino mine) ∙ is);
   gone = λ agino mine absent orphan. was.gone agino mine (sym (same agino mine) ∙ absent) orphan;
 }
 
-pub walked_more : (g : Geometry) (image : List Sector) (group b : ℕ) (old new : List (ℕ × ℕ)) (wrong place now : Option ℕ) → IsLeast wrong place now → WalkedBelow g image group b old wrong
-    → ((agino : ℕ) → agino % BUCKETS ≢ b → next_of new agino ≡ next_of old agino) → IfNone place (IsWalked g image group b new) → IfSome place (IsWrongAt g image group b)
+pub walked_more : (g : Geometry) (image : List Sector) (group b : ℕ) (old new : List (ℕ × ℕ)) (wrong place now : Option ℕ) → IsLesser wrong place now → WalkedBelow g image group b old wrong
+    → ((agino : ℕ) → agino % BUCKETS ≢ b → next_pointer_of new agino ≡ next_pointer_of old agino) → IfNone place (IsWalked g image group b new) → IfSome place (IsWrongAt g image group b)
     → WalkedBelow g image group (b + 1) new now
 walked_more g image group b old new None None None least was same ends strays = λ bucket lt.
     elim (cases_lt bucket b) [
@@ -207,10 +207,10 @@ unmet_all g image group bucket nexts pointing all = record {
 
 -- ---- the first damage by the rules on pointers and on lists
 
-before_pointers : (P : Rule → Type 0) → ((rule : Rule) → number_of rule ≤ 10 → P rule) → (other : Rule) → number_of other < 11 → P other
+before_pointers : (P : Rule → Type 0) → ((rule : Rule) → groups_rule_number rule ≤ 10 → P rule) → (other : Rule) → groups_rule_number other < 11 → P other
 before_pointers P below other lt = below other (omega arith)
 
-before_lists : (P : Rule → Type 0) → ((rule : Rule) → number_of rule ≤ 10 → P rule) → P pointers → (other : Rule) → number_of other < 12 → P other
+before_lists : (P : Rule → Type 0) → ((rule : Rule) → groups_rule_number rule ≤ 10 → P rule) → P pointers → (other : Rule) → groups_rule_number other < 12 → P other
 before_lists P below a header lt = below header (omega arith)
 before_lists P below a tree lt = below tree (omega arith)
 before_lists P below a core lt = below core (omega arith)
@@ -220,7 +220,7 @@ before_lists P below a bitmap lt = below bitmap (omega arith)
 before_lists P below a pointers lt = a
 before_lists P below a lists lt = absurd (omega arith)
 
-pub all_rules : (P : Rule → Type 0) → ((rule : Rule) → number_of rule ≤ 10 → P rule) → P pointers → P lists → (other : Rule) → P other
+pub all_rules : (P : Rule → Type 0) → ((rule : Rule) → groups_rule_number rule ≤ 10 → P rule) → P pointers → P lists → (other : Rule) → P other
 all_rules P below a b header = below header (omega arith)
 all_rules P below a b tree = below tree (omega arith)
 all_rules P below a b core = below core (omega arith)
@@ -251,7 +251,7 @@ pointers_hold g image group nexts walked bucket low = let w = walked bucket low 
 
 -- an inode is right that was met, or points nowhere
 listed : (g : Geometry) (image : List Sector) (group agino : ℕ) (nexts : List (ℕ × ℕ)) (row : Row) → WalkedBelow g image group BUCKETS nexts None → row_at g image group agino ≡ Some row
-    → next_of nexts agino ≡ None → EndsThere g image group agino → IsListed g image group agino row
+    → next_pointer_of nexts agino ≡ None → EndsThere g image group agino → IsListed g image group agino row
 listed g image group agino nexts row walked found absent ends = record {
   unlinked = λ none.
       let w = walked (agino % BUCKETS) (omega arith) in
@@ -261,7 +261,7 @@ listed g image group agino nexts row walked found absent ends = record {
 }
 
 -- one that was not met is not listed
-unlisted : (g : Geometry) (image : List Sector) (group agino next : ℕ) (nexts : List (ℕ × ℕ)) → WalkedBelow g image group BUCKETS nexts None → next_of nexts agino ≡ Some next
+unlisted : (g : Geometry) (image : List Sector) (group agino next : ℕ) (nexts : List (ℕ × ℕ)) → WalkedBelow g image group BUCKETS nexts None → next_pointer_of nexts agino ≡ Some next
     → IsMet g image group agino → ⊥
 unlisted g image group agino next nexts walked is met =
     let w = walked (agino % BUCKETS) (omega arith) in
@@ -275,8 +275,8 @@ unlisted g image group agino next nexts walked is met =
 -- the least number of those that are kept
 abbrev pub IsFirstKept : List (ℕ × ℕ) → Option ℕ → Type 0
 IsFirstKept nexts first =
-    IfSome first (λ agino. IsSome (next_of nexts agino) × ((other : ℕ) → IsSome (next_of nexts other) → agino ≤ other))
-    × IfNone first ((other : ℕ) → next_of nexts other ≡ None)
+    IfSome first (λ agino. IsSome (next_pointer_of nexts agino) × ((other : ℕ) → IsSome (next_pointer_of nexts other) → agino ≤ other))
+    × IfNone first ((other : ℕ) → next_pointer_of nexts other ≡ None)
 
 some_of : (o : Option ℕ) → IsSome o → (x : ℕ) × (o ≡ Some x)
 some_of None is = absurd (false≢true is)
@@ -285,12 +285,12 @@ some_of (Some x) is = (x, refl)
 some_from : (o : Option ℕ) (x : ℕ) → o ≡ Some x → IsSome o
 some_from o x is = subst IsSome (sym is) refl
 
-none_kept : (nexts : List (ℕ × ℕ)) (first : Option ℕ) (n agino : ℕ) → IsFirstKept nexts first → IfSome first (λ x. n ≤ x) → agino < n → next_of nexts agino ≡ None
+none_kept : (nexts : List (ℕ × ℕ)) (first : Option ℕ) (n agino : ℕ) → IsFirstKept nexts first → IfSome first (λ x. n ≤ x) → agino < n → next_pointer_of nexts agino ≡ None
 none_kept nexts None n agino is low lt = is.1 agino
 none_kept nexts (Some x) n agino is low lt =
-    elim (none_or_some (next_of nexts agino)) [
+    elim (none_or_some (next_pointer_of nexts agino)) [
       | inl e ↦ e
-      | inr found ↦ absurd (omega (arith, low, lt, is.0.1 agino (some_from (next_of nexts agino) found.0 found.1)))
+      | inr found ↦ absurd (omega (arith, low, lt, is.0.1 agino (some_from (next_pointer_of nexts agino) found.0 found.1)))
     ]
 
 ends_below : (g : Geometry) (image : List Sector) (group n agino : ℕ) (nexts : List (ℕ × ℕ)) (pointing : Option ℕ) → AllNoted g image group nexts pointing → IfSome pointing (λ x. n ≤ x) → agino < n
@@ -302,21 +302,21 @@ row_of : (o : Option Row) → IsSomeAnd o (λ row. row.links ≡ 0) → (row : R
 row_of None is = absurd is
 row_of (Some row) is = (row, refl, is)
 
-unlisted_row : (g : Geometry) (image : List Sector) (group agino : ℕ) (nexts : List (ℕ × ℕ)) → WalkedBelow g image group BUCKETS nexts None → IsSome (next_of nexts agino)
+unlisted_row : (g : Geometry) (image : List Sector) (group agino : ℕ) (nexts : List (ℕ × ℕ)) → WalkedBelow g image group BUCKETS nexts None → IsSome (next_pointer_of nexts agino)
     → (row : Row) × (row_at g image group agino ≡ Some row) × (IsListed g image group agino row → ⊥)
 unlisted_row g image group agino nexts walked some =
-    let is = some_of (next_of nexts agino) some in
+    let is = some_of (next_pointer_of nexts agino) some in
     let w = walked (agino % BUCKETS) (omega arith) in
     let kept = w.unmet.held agino is.0 refl is.1 in
     let row = row_of (row_at g image group agino) kept.0.orphan in
     (row.0, row.1, λ right. unlisted g image group agino is.0 nexts walked is.1 (right.unlinked row.2))
 
 wrong_row : (g : Geometry) (image : List Sector) (group n : ℕ) (old nexts : List (ℕ × ℕ)) (first pointing : Option ℕ) → WalkedBelow g image group BUCKETS nexts None → AllNoted g image group old pointing
-    → IsFirstKept nexts first → IsLeast first pointing (Some n) → (row : Row) × (row_at g image group n ≡ Some row) × (IsListed g image group n row → ⊥)
+    → IsFirstKept nexts first → IsLesser first pointing (Some n) → (row : Row) × (row_at g image group n ≡ Some row) × (IsListed g image group n row → ⊥)
 wrong_row g image group n old nexts first pointing walked all kept least =
     elim least.0 [
       | inl is ↦
-          let f = subst (λ (o : Option ℕ). IfSome o (λ agino. IsSome (next_of nexts agino) × ((other : ℕ) → IsSome (next_of nexts other) → agino ≤ other))) is kept.0 in
+          let f = subst (λ (o : Option ℕ). IfSome o (λ agino. IsSome (next_pointer_of nexts agino) × ((other : ℕ) → IsSome (next_pointer_of nexts other) → agino ≤ other))) is kept.0 in
           unlisted_row g image group n nexts walked f.0
       | inr is ↦
           let f = subst (PointingBelow g image group all.bound) is all.noted.first in
@@ -324,7 +324,7 @@ wrong_row g image group n old nexts first pointing walked all kept least =
     ]
 
 pub lists_first : (g : Geometry) (image : List Sector) (group n : ℕ) (old nexts : List (ℕ × ℕ)) (first pointing : Option ℕ) → SpaceHolds g image group → WalkedBelow g image group BUCKETS nexts None
-    → AllNoted g image group old pointing → IsFirstKept nexts first → IsLeast first pointing (Some n) → IsFirstIn g image group 12 (sector_in g group n)
+    → AllNoted g image group old pointing → IsFirstKept nexts first → IsLesser first pointing (Some n) → IsFirstIn g image group 12 (sector_in g group n)
 lists_first g image group n old nexts first pointing space walked all kept least =
     let row = wrong_row g image group n old nexts first pointing walked all kept least in
     record {
@@ -339,9 +339,9 @@ lists_first g image group n old nexts first pointing space walked all kept least
     }
 
 pub lists_hold : (g : Geometry) (image : List Sector) (group : ℕ) (old nexts : List (ℕ × ℕ)) (first pointing : Option ℕ) → WalkedBelow g image group BUCKETS nexts None
-    → AllNoted g image group old pointing → IsFirstKept nexts first → IsLeast first pointing None → HoldsIn g image lists group
+    → AllNoted g image group old pointing → IsFirstKept nexts first → IsLesser first pointing None → HoldsIn g image lists group
 lists_hold g image group old nexts first pointing walked all kept least agino row found =
-    let f = subst (λ (o : Option ℕ). IfNone o ((other : ℕ) → next_of nexts other ≡ None)) least.0 kept.1 in
+    let f = subst (λ (o : Option ℕ). IfNone o ((other : ℕ) → next_pointer_of nexts other ≡ None)) least.0 kept.1 in
     let ended = subst (λ (o : Option ℕ). AllNoted g image group old o) least.1 all in
     listed g image group agino nexts row walked found (f agino) (all_end g image group old ended agino)
 

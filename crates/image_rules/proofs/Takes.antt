@@ -4,8 +4,8 @@ use Rattle.std.proofs.lemmas.Bool.{cases_lt, cases_order, false≢true}
 use Rattle.std.proofs.lemmas.Bool.Decides.{nat_tests}
 use Rattle.std.proofs.lemmas.List.{take_more, get_or_past, get_or-set_same, get_or-set_other, get_or_append_left, get_or_push}
 use Rattle.life_table.specs.Space.{times}
-use Rattle.free_map.specs.Blocks.{is_free}
-use Rattle.image_rules.specs.Taking.{TakesAll, IsCrowded}
+use Rattle.free_map.specs.Blocks.{is_block_free}
+use Rattle.image_rules.specs.Taking.{TakesAll, SharesBlock}
 
 pub times_none : (b : ℕ) → times b [] ≡ 0
 unfolding times
@@ -32,13 +32,13 @@ times_take b (suc n) (x ∷ xs) = omega (arith, times_cons b x (take n xs), time
 
 -- ---- one block taken
 
-below_length : (map : List Bool) (x : ℕ) → is_free map x ≡ true → x < length map
+below_length : (map : List Bool) (x : ℕ) → is_block_free map x ≡ true → x < length map
 below_length map x free = elim (cases_lt x (length map)) [ inl lt ↦ lt | inr past ↦ absurd (false≢true (sym (get_or_past map x false past) ∙ free)) ]
 
-pub taken_here : (map : List Bool) (x : ℕ) → is_free map x ≡ true → is_free (set map x false) x ≡ false
+pub taken_here : (map : List Bool) (x : ℕ) → is_block_free map x ≡ true → is_block_free (set map x false) x ≡ false
 taken_here map x free = get_or-set_same map x false false (below_length map x free)
 
-pub taken_there : (map : List Bool) (b x : ℕ) → b ≢ x → is_free (set map x false) b ≡ is_free map b
+pub taken_there : (map : List Bool) (b x : ℕ) → b ≢ x → is_block_free (set map x false) b ≡ is_block_free map b
 taken_there map b x ne = get_or-set_other map x b false false ne
 
 -- ---- a list of them
@@ -51,17 +51,17 @@ TakesAll-none map = record {
   others = λ b none. refl;
 }
 
-none_before : (old map : List Bool) (xs : List ℕ) (x : ℕ) → TakesAll old xs map → is_free map x ≡ true → times x xs ≡ 0
+none_before : (old map : List Bool) (xs : List ℕ) (x : ℕ) → TakesAll old xs map → is_block_free map x ≡ true → times x xs ≡ 0
 none_before old map xs x takes free =
     elim (cases_lt (times x xs) 1) [ inl lt ↦ omega arith | inr some ↦ absurd (false≢true (sym (takes.taken x some) ∙ free)) ]
 
-TakesAll-push : (old map : List Bool) (xs : List ℕ) (x : ℕ) → TakesAll old xs map → is_free map x ≡ true → TakesAll old (xs ++ x ∷ []) (set map x false)
+TakesAll-push : (old map : List Bool) (xs : List ℕ) (x : ℕ) → TakesAll old xs map → is_block_free map x ≡ true → TakesAll old (xs ++ x ∷ []) (set map x false)
 TakesAll-push old map xs x takes free =
     let none : times x xs ≡ 0 = none_before old map xs x takes free in
     let here : times x (xs ++ x ∷ []) ≡ 1 = omega (arith, times_here x xs, none) in
     record {
       free = λ b some. elim (cases_order b x) [
-        | inl e ↦ ap (is_free old) e ∙ sym (takes.others x none) ∙ free
+        | inl e ↦ ap (is_block_free old) e ∙ sym (takes.others x none) ∙ free
         | inr (inl lt) ↦ takes.free b (omega (arith, some, times_there b x xs (λ e. absurd (omega arith))))
         | inr (inr gt) ↦ takes.free b (omega (arith, some, times_there b x xs (λ e. absurd (omega arith))))
       ];
@@ -71,7 +71,7 @@ TakesAll-push old map xs x takes free =
         | inr (inr gt) ↦ omega (arith, takes.once b, times_there b x xs (λ e. absurd (omega arith)))
       ];
       taken = λ b some. elim (cases_order b x) [
-        | inl e ↦ ap (is_free (set map x false)) e ∙ taken_here map x free
+        | inl e ↦ ap (is_block_free (set map x false)) e ∙ taken_here map x free
         | inr (inl lt) ↦ taken_there map b x (λ e. absurd (omega arith)) ∙ takes.taken b (omega (arith, some, times_there b x xs (λ e. absurd (omega arith))))
         | inr (inr gt) ↦ taken_there map b x (λ e. absurd (omega arith)) ∙ takes.taken b (omega (arith, some, times_there b x xs (λ e. absurd (omega arith))))
       ];
@@ -82,13 +82,13 @@ TakesAll-push old map xs x takes free =
       ];
     }
 
-pub TakesAll-more : (old map : List Bool) (xs : List ℕ) (i : ℕ) → i < length xs → TakesAll old (take i xs) map → is_free map (get_or xs i 0) ≡ true
+pub TakesAll-more : (old map : List Bool) (xs : List ℕ) (i : ℕ) → i < length xs → TakesAll old (take i xs) map → is_block_free map (get_or xs i 0) ≡ true
     → TakesAll old (take (i + 1) xs) (set map (get_or xs i 0) false)
 TakesAll-more old map xs i low takes free =
     let x : ℕ = get_or xs i 0 in
     subst (λ (ys : List ℕ). TakesAll old ys (set map x false)) (sym (take_more xs i 0 low)) (TakesAll-push old map (take i xs) x takes free)
 
-pub crowded_at : (old map : List Bool) (xs : List ℕ) (i : ℕ) → i < length xs → TakesAll old (take i xs) map → is_free map (get_or xs i 0) ≡ false → IsCrowded old xs
+pub crowded_at : (old map : List Bool) (xs : List ℕ) (i : ℕ) → i < length xs → TakesAll old (take i xs) map → is_block_free map (get_or xs i 0) ≡ false → SharesBlock old xs
 crowded_at old map xs i low takes taken =
     let x : ℕ = get_or xs i 0 in
     let more : times x (take (i + 1) xs) ≡ times x (take i xs) + 1 = ap (times x) (take_more xs i 0 low) ∙ times_here x (take i xs) in

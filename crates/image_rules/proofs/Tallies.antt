@@ -6,12 +6,12 @@ use Rattle.std.proofs.lemmas.List.FromFn.{sum_by-map-range_with_len_more}
 use Rattle.std.proofs.lemmas.List.Sums.{sum_by-cons, sum_by_more}
 use Rattle.std.proofs.Math.Seq.{take-length}
 use Rattle.life_bytes.specs.declared.sector.Sector.{Sector}
+use Rattle.life_bytes.specs.Bits.{is_set}
 use Rattle.geometry.specs.declared.shape.Geometry.{Geometry}
 use Rattle.inobt_leaf.specs.declared.chunk.ChunkRec.{ChunkRec}
-use Rattle.inobt_leaf.specs.Masks.{is_set}
 use Rattle.life_table.specs.declared.table.Inode.{Inode}
 use Rattle.life_table.specs.declared.table.Chunk.{Chunk}
-use Rattle.sound_image.specs.Counts.{orphans_in}
+use Rattle.sound_image.specs.Counts.{orphans_in_group}
 use Rattle.sound_image.specs.Reading.{chunk_read, group_read, inode_read, records_of}
 use Rattle.sound_image.specs.Encoding.{is_unlinked_row}
 use Rattle.image_rules.specs.Counted.{chunk_orphans, one_if_orphan}
@@ -51,8 +51,8 @@ chunks_sum g image group (r ∷ rs) =
     )
 
 pub group_sum : (g : Geometry) (image : List Sector) (group : ℕ) (rs : List ChunkRec) (n : ℕ) → records_of g image group ≡ rs → n ≡ length rs
-    → sum_by (chunk_orphans g image group) (take n rs) ≡ orphans_in (group_read g image group)
-unfolding orphans_in group_read
+    → sum_by (chunk_orphans g image group) (take n rs) ≡ orphans_in_group (group_read g image group)
+unfolding orphans_in_group group_read
 group_sum g image group rs n same whole =
     ap (λ (k : ℕ). sum_by (chunk_orphans g image group) (take k rs)) whole
     ∙ ap (λ (cs : List ChunkRec). sum_by (chunk_orphans g image group) cs) (take-length rs ∙ sym same)

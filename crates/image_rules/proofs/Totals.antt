@@ -4,7 +4,7 @@ use Rattle.std.proofs.lemmas.List.FromFn.{sum_by-map-range_with_len_more}
 use Rattle.life_bytes.specs.declared.sector.Sector.{Sector}
 use Rattle.geometry.specs.declared.shape.Geometry.{Geometry}
 use Rattle.life_table.specs.Table.{Group}
-use Rattle.sound_image.specs.Counts.{inodes_in, orphans_in, chunk_count, inode_count, orphan_count}
+use Rattle.sound_image.specs.Counts.{inodes_in, orphans_in_group, chunk_count, inode_count, orphan_count}
 use Rattle.sound_image.specs.Reading.{group_read, rows_of}
 use Rattle.image_rules.specs.declared.tables.Tables.{Tables}
 use Rattle.image_rules.specs.Counted.{IsCounted, AreCounted, HasTables}
@@ -17,7 +17,7 @@ pub counted_more : (g : Geometry) (image : List Sector) (n : ℕ) (a b c : Table
 counted_more g image n a b c x y chunks inodes orphans = record {
   chunks = omega (arith, x.chunks, y.chunks, chunks, sum_by-map-range_with_len_more (λ (group : Group). length group) (group_read g image) 0 n n (omega arith));
   inodes = omega (arith, x.inodes, y.inodes, inodes, sum_by-map-range_with_len_more inodes_in (group_read g image) 0 n n (omega arith));
-  orphans = omega (arith, x.orphans, y.orphans, orphans, sum_by-map-range_with_len_more orphans_in (group_read g image) 0 n n (omega arith));
+  orphans = omega (arith, x.orphans, y.orphans, orphans, sum_by-map-range_with_len_more orphans_in_group (group_read g image) 0 n n (omega arith));
 }
 
 pub whole_tables : (g : Geometry) (image : List Sector) (t : Tables) → AreCounted g image g.groups t → HasTables g image t

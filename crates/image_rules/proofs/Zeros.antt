@@ -10,7 +10,7 @@ use Rattle.life_bytes.specs.Sectors.{zero_sector}
 use Rattle.life_bytes.specs.SectorBytes.{bytes_of}
 use Rattle.life_bytes.specs.TableLaws.{bytes_of_zero_sector}
 use Rattle.life_bytes.specs.Pieces.{zeros}
-use Rattle.free_map.specs.Blocks.{is_free}
+use Rattle.free_map.specs.Blocks.{is_block_free}
 use Rattle.free_map.specs.Bitmap.{says_free, read_blocks}
 
 all_zero : (sectors : List Sector) → All (λ (s : Sector). s ≡ zero_sector) sectors → All (λ (x : ℕ). x ≡ 0) (bytes_of sectors)
@@ -27,7 +27,7 @@ zero_at bytes i all = elim (cases_lt i (length bytes)) [ inl lt ↦ all i 0 lt |
 no_bit : (k : ℕ) → eqb (0 / 2 ^ k % 2) 1 ≡ false
 no_bit k = ap (λ (x : ℕ). eqb (x % 2) 1) (zero-div (2 ^ k))
 
-pub zero_map : (sectors : List Sector) (n b : ℕ) → All (λ (s : Sector). s ≡ zero_sector) sectors → is_free (read_blocks (bytes_of sectors) n) b ≡ false
+pub zero_map : (sectors : List Sector) (n b : ℕ) → All (λ (s : Sector). s ≡ zero_sector) sectors → is_block_free (read_blocks (bytes_of sectors) n) b ≡ false
 zero_map sectors n b all =
     let bytes : List ℕ = bytes_of sectors in
     elim (cases_lt b n) [

@@ -7,7 +7,7 @@ use Rattle.inobt_leaf.specs.declared.chunk.ChunkRec.{ChunkRec}
 use Rattle.life_table.specs.declared.types.Row.{Row}
 use Rattle.life_table.specs.declared.table.Inode.{Inode}
 use Rattle.life_table.specs.Table.{Group}
-use Rattle.sound_image.specs.Counts.{inodes_in, orphans_in, chunk_count, inode_count, orphan_count}
+use Rattle.sound_image.specs.Counts.{inodes_in, orphans_in_group, chunk_count, inode_count, orphan_count}
 use Rattle.sound_image.specs.Reading.{chunk_read, group_read, rows_of}
 use Rattle.sound_image.specs.Encoding.{is_unlinked_row}
 use Rattle.image_rules.specs.declared.tables.Tables.{Tables}
@@ -24,13 +24,13 @@ chunk_orphans g image group chunk = count_by (λ (inode : Inode). is_unlinked_ro
 pub record IsCounted (g : Geometry) (image : List Sector) (group : ℕ) (t : Tables) : Type 0 where
   pub chunks : t.chunks ≡ length (group_read g image group)
   pub inodes : t.inodes ≡ inodes_in (group_read g image group)
-  pub orphans : t.orphans ≡ orphans_in (group_read g image group)
+  pub orphans : t.orphans ≡ orphans_in_group (group_read g image group)
 
 -- the numbers are those of the first groups
 pub record AreCounted (g : Geometry) (image : List Sector) (bound : ℕ) (t : Tables) : Type 0 where
   pub chunks : t.chunks ≡ sum_by (λ (group : Group). length group) (map (group_read g image) (range_with_len 0 bound))
   pub inodes : t.inodes ≡ sum_by inodes_in (map (group_read g image) (range_with_len 0 bound))
-  pub orphans : t.orphans ≡ sum_by orphans_in (map (group_read g image) (range_with_len 0 bound))
+  pub orphans : t.orphans ≡ sum_by orphans_in_group (map (group_read g image) (range_with_len 0 bound))
 
 -- the numbers are those of the table that the image has
 pub record HasTables (g : Geometry) (image : List Sector) (t : Tables) : Type 0 where

@@ -3,7 +3,7 @@ use Rattle.std.specs.Prelude.{◌≡◌, ◌<◌, ◌≤◌, ℕ, List, Option, 
 use Rattle.life_bytes.specs.declared.sector.Sector.{Sector}
 use Rattle.life_ports.specs.Faults.{Rose}
 use Rattle.geometry.specs.declared.shape.Geometry.{Geometry}
-use Rattle.sound_image.specs.Damage.{Rule, number_of, HoldsIn, BreaksIn, FirstDamage}
+use Rattle.sound_image.specs.Damage.{Rule, groups_rule_number, HoldsIn, BreaksIn, FirstGroupsDamage}
 use Rattle.image_rules.specs.declared.fault.CheckFault.{CheckFault}
 use Rattle.image_rules.specs.declared.fault.Damage.{Damage}
 use Rattle.image_rules.specs.declared.fault.CheckFault.TheVariants.{Damaged, ReadFault, NoMemory}
@@ -11,8 +11,8 @@ use Rattle.image_rules.specs.declared.fault.CheckFault.TheVariants.{Damaged, Rea
 -- the first damage of one group: the least rule that is broken in it, by its number, and the least sector at which it is
 pub record IsFirstIn (g : Geometry) (image : List Sector) (group number s : ℕ) : Type 0 where
   pub rule : Rule
-  pub numbered : number_of rule ≡ number
-  pub before : (other : Rule) → number_of other < number → HoldsIn g image other group
+  pub numbered : groups_rule_number rule ≡ number
+  pub before : (other : Rule) → groups_rule_number other < number → HoldsIn g image other group
   pub broken : BreaksIn g image rule group s
   pub least : (other : ℕ) → BreaksIn g image rule group other → s ≤ other
 
@@ -36,7 +36,7 @@ IsCaused before now NoMemory = ⊤
 
 -- all rules up to that of the bitmap hold in a group
 abbrev pub SpaceHolds : Geometry → List Sector → ℕ → Type 0
-SpaceHolds g image group = (rule : Rule) → number_of rule ≤ 10 → HoldsIn g image rule group
+SpaceHolds g image group = (rule : Rule) → groups_rule_number rule ≤ 10 → HoldsIn g image rule group
 
 -- all rules hold in a group
 abbrev pub AllHold : Geometry → List Sector → ℕ → Type 0
@@ -50,8 +50,8 @@ IsChecked g image group (Some damage) = IsFirstIn g image group damage.rule dama
 -- the first damage of the first groups: the least rule that is broken in one of them, and the least sector at which it is
 pub record IsFirstBelow (g : Geometry) (image : List Sector) (bound number s : ℕ) : Type 0 where
   pub rule : Rule
-  pub numbered : number_of rule ≡ number
-  pub before : (other : Rule) → number_of other < number → (group : ℕ) → group < bound → HoldsIn g image other group
+  pub numbered : groups_rule_number rule ≡ number
+  pub before : (other : Rule) → groups_rule_number other < number → (group : ℕ) → group < bound → HoldsIn g image other group
   pub group : ℕ
   pub low : group < bound
   pub broken : BreaksIn g image rule group s
@@ -64,7 +64,7 @@ AreChecked g image bound (Some damage) = IsFirstBelow g image bound damage.rule 
 
 -- damage is the first of all groups of the image; other faults say nothing of it
 abbrev pub IsDamage : Geometry → List Sector → CheckFault → Type 0
-IsDamage g image (Damaged number s) = (rule : Rule) × (number_of rule ≡ number) × FirstDamage g image rule s
+IsDamage g image (Damaged number s) = (rule : Rule) × (groups_rule_number rule ≡ number) × FirstGroupsDamage g image rule s
 IsDamage g image ReadFault = ⊤
 IsDamage g image NoMemory = ⊤
 

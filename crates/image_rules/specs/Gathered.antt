@@ -3,7 +3,7 @@ use Rattle.std.specs.Prelude.{◌≡◌, ◌≤◌, ◌<◌, ◌+◌, ℕ, Bool,
 use Rattle.life_limits.specs.declared.TheConstants.{CHUNK_INODES, FIRST_DATA_BLOCK}
 use Rattle.life_bytes.specs.declared.sector.Sector.{Sector}
 use Rattle.geometry.specs.declared.shape.Geometry.{Geometry}
-use Rattle.free_map.specs.Blocks.{is_free}
+use Rattle.free_map.specs.Blocks.{is_block_free}
 use Rattle.inobt_leaf.specs.declared.chunk.ChunkRec.{ChunkRec}
 use Rattle.life_table.specs.declared.types.Row.{Row}
 use Rattle.life_table.specs.declared.table.Inode.{Inode}
@@ -24,8 +24,8 @@ InNoneBelow g image group bound b = (agino : ℕ) → agino < bound → ¬ IsIn 
 -- the map has the data blocks that are in no chunk and in no inode below a number
 pub record IsLeft (g : Geometry) (image : List Sector) (group bound : ℕ) (map : List Bool) : Type 0 where
   pub long : length map ≡ g.blocks
-  pub free : (b : ℕ) → is_free map b ≡ true → (FIRST_DATA_BLOCK ≤ b) × (b < g.blocks) × InNoChunk g image group b × InNoneBelow g image group bound b
-  pub kept : (b : ℕ) → FIRST_DATA_BLOCK ≤ b → b < g.blocks → InNoChunk g image group b → InNoneBelow g image group bound b → is_free map b ≡ true
+  pub free : (b : ℕ) → is_block_free map b ≡ true → (FIRST_DATA_BLOCK ≤ b) × (b < g.blocks) × InNoChunk g image group b × InNoneBelow g image group bound b
+  pub kept : (b : ℕ) → FIRST_DATA_BLOCK ≤ b → b < g.blocks → InNoChunk g image group b → InNoneBelow g image group bound b → is_block_free map b ≡ true
 
 -- the core of an inode, the fork of one in use, and its blocks are right
 abbrev pub CoreHolds : Geometry → List Sector → ℕ → ℕ → Type 0
@@ -83,7 +83,7 @@ abbrev pub row_unless : Geometry → List Sector → ℕ → ℕ → Bool → Op
 row_unless g image group agino free = if free then None else Some (record { links = (core_of g image group agino).links; blocks = blocks_in g image group agino; opens = 0 })
 
 -- the next inode that the group has from a number on, and what its sector holds
-pub record IsNext (g : Geometry) (image : List Sector) (group bound agino : ℕ) (bytes : List ℕ) (free : Bool) : Type 0 where
+pub record IsNextInode (g : Geometry) (image : List Sector) (group bound agino : ℕ) (bytes : List ℕ) (free : Bool) : Type 0 where
   pub shown : bytes_at image (sector_in g group agino) ≡ bytes
   pub inode : Inode
   pub found : inode_at g image group agino ≡ Some inode

@@ -14,24 +14,24 @@ use Rattle.image_rules.specs.Gathered.{Gathered}
 use Rattle.image_rules.specs.declared.found.Found.{Found}
 
 -- the next pointer that is kept of an inode, by its number in the group
-abbrev pub next_of : List (ℕ × ℕ) → ℕ → Option ℕ
-next_of nexts agino = lookup (is_at (nat_cmp agino)) nexts
+abbrev pub next_pointer_of : List (ℕ × ℕ) → ℕ → Option ℕ
+next_pointer_of nexts agino = lookup (is_at (nat_cmp agino)) nexts
 
 -- an inode is in use and has no links
 abbrev pub IsOrphan : Geometry → List Sector → ℕ → ℕ → Type 0
 IsOrphan g image group agino = IsSomeAnd (row_at g image group agino) (λ row. row.links ≡ 0)
 
 -- what is kept of an inode is its next pointer, and it has no links
-pub record IsKept (g : Geometry) (image : List Sector) (group agino next : ℕ) : Type 0 where
+pub record IsUnlinkedEntry (g : Geometry) (image : List Sector) (group agino next : ℕ) : Type 0 where
   pub some : agino ≢ NO_INODE
   pub orphan : IsOrphan g image group agino
   pub points : (core_of g image group agino).next ≡ next
 
 -- the next pointers of the inodes below a number that are in use without links are kept, and no others
 pub record AreOrphans (g : Geometry) (image : List Sector) (group bound : ℕ) (nexts : List (ℕ × ℕ)) : Type 0 where
-  pub held : (agino next : ℕ) → next_of nexts agino ≡ Some next → IsKept g image group agino next
-  pub none : (agino : ℕ) → agino < bound → next_of nexts agino ≡ None → ¬ IsOrphan g image group agino
-  pub low : (agino next : ℕ) → next_of nexts agino ≡ Some next → agino < bound
+  pub held : (agino next : ℕ) → next_pointer_of nexts agino ≡ Some next → IsUnlinkedEntry g image group agino next
+  pub none : (agino : ℕ) → agino < bound → next_pointer_of nexts agino ≡ None → ¬ IsOrphan g image group agino
+  pub low : (agino next : ℕ) → next_pointer_of nexts agino ≡ Some next → agino < bound
 
 -- an inode with links has no next pointer
 abbrev pub EndsThere : Geometry → List Sector → ℕ → ℕ → Type 0
@@ -56,7 +56,7 @@ pub record Noted (g : Geometry) (image : List Sector) (group bound : ℕ) (nexts
   pub first : PointingBelow g image group bound pointing
 
 -- all that was found of the inodes below a number
-pub record IsFound (g : Geometry) (image : List Sector) (group bound : ℕ) (found : Found) : Type 0 where
+pub record GroupIsFound (g : Geometry) (image : List Sector) (group bound : ℕ) (found : Found) : Type 0 where
   pub space : Gathered g image group bound found.map found.fork found.shared
   pub links : Noted g image group bound found.links.orphans.entries found.links.pointing
 
@@ -68,9 +68,9 @@ pub record AllNoted (g : Geometry) (image : List Sector) (group : ℕ) (nexts : 
 
 -- of a bucket those without links are kept that none of its first n pointers points at
 pub record AreUnmet (g : Geometry) (image : List Sector) (group bucket n : ℕ) (nexts : List (ℕ × ℕ)) : Type 0 where
-  pub held : (agino next : ℕ) → agino % BUCKETS ≡ bucket → next_of nexts agino ≡ Some next
-      → IsKept g image group agino next × ((k : ℕ) → k < n → pointer g image group bucket k ≢ agino)
-  pub gone : (agino : ℕ) → agino % BUCKETS ≡ bucket → next_of nexts agino ≡ None → IsOrphan g image group agino
+  pub held : (agino next : ℕ) → agino % BUCKETS ≡ bucket → next_pointer_of nexts agino ≡ Some next
+      → IsUnlinkedEntry g image group agino next × ((k : ℕ) → k < n → pointer g image group bucket k ≢ agino)
+  pub gone : (agino : ℕ) → agino % BUCKETS ≡ bucket → next_pointer_of nexts agino ≡ None → IsOrphan g image group agino
       → (k : ℕ) × (k < n) × (pointer g image group bucket k ≡ agino)
 
 -- the list of a bucket was walked to its end
@@ -100,11 +100,11 @@ WalkedBelow g image group bound nexts (Some place) = IsLeastWrong g image group 
 
 -- an inode's next pointer is kept no longer
 pub record Takes (old : List (ℕ × ℕ)) (agino next : ℕ) (new : List (ℕ × ℕ)) : Type 0 where
-  pub was : next_of old agino ≡ Some next
-  pub gone : next_of new agino ≡ None
-  pub others : (q : ℕ) → q ≢ agino → next_of new q ≡ next_of old q
+  pub was : next_pointer_of old agino ≡ Some next
+  pub gone : next_pointer_of new agino ≡ None
+  pub others : (q : ℕ) → q ≢ agino → next_pointer_of new q ≡ next_pointer_of old q
 
 -- a number is the less of two, where there are two
-abbrev pub IsLeast : Option ℕ → Option ℕ → Option ℕ → Type 0
-IsLeast first second None = (first ≡ None) × (second ≡ None)
-IsLeast first second (Some n) = ((first ≡ Some n) ⊎ (second ≡ Some n)) × IfSome first (λ x. n ≤ x) × IfSome second (λ y. n ≤ y)
+abbrev pub IsLesser : Option ℕ → Option ℕ → Option ℕ → Type 0
+IsLesser first second None = (first ≡ None) × (second ≡ None)
+IsLesser first second (Some n) = ((first ≡ Some n) ⊎ (second ≡ Some n)) × IfSome first (λ x. n ≤ x) × IfSome second (λ y. n ≤ y)

@@ -5,7 +5,7 @@ ghost use Rattle.life_bytes.specs.declared.sector.Sector.{Sector};
 ghost use Rattle.geometry.specs.declared.shape.Geometry.{Geometry};
 ghost use Rattle.geometry.specs.Places.{group_sectors};
 ghost use Rattle.geometry.specs.Shape.{IsGeometry};
-ghost use Rattle.sound_image.specs.Damage.{IsSound};
+ghost use Rattle.sound_image.specs.Damage.{AreGroupsSound};
 ghost use Rattle.image_rules.specs.Counted.{HasTables, IsCounted};
 ghost use Rattle.image_rules.specs.Faults.{AreChecked, IsCaused, IsEarlier, IsDamage, IsChecked, IsOutside};
 
@@ -94,7 +94,7 @@ pub fn check_groups<V: View>(
     requires shape { IsGeometry g.now }
     requires size { g.now.groups * group_sectors g.now ≤ V.sector_count view.old }
     // Where the view tells, the groups are sound where it is Ok, the numbers are those of their table, and damage is the first of them.
-    ensures sound { IsTrue V.known → OnOk result (IsSound g.now (V.image view.old)) }
+    ensures sound { IsTrue V.known → OnOk result (AreGroupsSound g.now (V.image view.old)) }
     ensures counted { IsTrue V.known → IfOk result (HasTables g.now (V.image view.old)) }
     ensures damaged { IsTrue V.known → IfErr result (IsDamage g.now (V.image view.old)) }
     ensures read_fault { IfErr result (IsCaused (V.fault_count view.old) (V.fault_count view.new)) }

@@ -3,19 +3,19 @@
 ghost use Rattle.std.specs.Prelude.{◌≡◌, ◌≤◌, ◌<◌, ◌+◌, ℕ, List, OnOk, IfErr, All, Some, false, length, unwrap_or};
 ghost use Rattle.life_limits.specs.declared.TheConstants.{CHUNK_INODES, MAX_BLOCKS, MAX_EXTENTS};
 ghost use Rattle.life_bytes.specs.declared.sector.Sector.{Sector};
+ghost use Rattle.life_bytes.specs.Bits.{is_set};
 ghost use Rattle.geometry.specs.declared.shape.Geometry.{Geometry};
 ghost use Rattle.geometry.specs.Places.{group_sectors};
 ghost use Rattle.geometry.specs.Shape.{IsGeometry};
-ghost use Rattle.inobt_leaf.specs.Chunks.{IsChunk};
-ghost use Rattle.inobt_leaf.specs.Masks.{is_set};
+ghost use Rattle.inobt_leaf.specs.Chunks.{IsChunkRecord};
 ghost use Rattle.life_table.specs.declared.table.Inode.{Inode};
 ghost use Rattle.sound_image.specs.Places.{bytes_at, sector_in};
 ghost use Rattle.sound_image.specs.Reading.{core_of, inode_at, records_of};
 ghost use Rattle.sound_image.specs.Rules.{IsCoreRight, IsInData};
 ghost use Rattle.image_rules.specs.Faults.{IsCaused};
-ghost use Rattle.image_rules.specs.Gathered.{Gathered, IsNext, IsNextChunk, CoreFault, row_unless};
+ghost use Rattle.image_rules.specs.Gathered.{Gathered, IsNextInode, IsNextChunk, CoreFault, row_unless};
 ghost use Rattle.image_rules.specs.Counted.{chunk_orphans, one_if_orphan};
-ghost use Rattle.image_rules.specs.Listing.{IsFound};
+ghost use Rattle.image_rules.specs.Listing.{GroupIsFound};
 ghost use Rattle.image_rules.specs.declared.fault.CheckFault.TheVariants.{NoMemory};
 ghost use Rattle.image_rules.specs.Shown.{Shows};
 ghost use Rattle.image_rules.specs.Taking.{Adds};
@@ -52,7 +52,7 @@ impl Found {
     pub(crate) fn new(alloc: Global, blocks: u32, chunks: &[ChunkRec]) -> Found
         requires { blocks ≤ MAX_BLOCKS }
         ensures found { (g : Geometry) (image : List Sector) (group : ℕ) → g.blocks ≡ blocks → records_of g image group ≡ chunks.now
-            → IsFound g image group 0 result }
+            → GroupIsFound g image group 0 result }
         ensures none { length result.links.orphans.entries ≡ 0 }
     {
         let mut map = data_blocks(blocks);
@@ -124,13 +124,13 @@ impl Found {
         requires shape { IsGeometry g.now }
         requires inside { group < g.now.groups }
         requires low { agino < group_sectors g.now }
-        ensures taken { (image : List Sector) (bound : ℕ) → IsNext g.now image group bound agino sector.now.bytes free
-            → IsFound g.now image group bound self.old
-            → OnOk result (IsFound g.now image group (agino + 1) self.new) }
-        ensures counted { (image : List Sector) (bound : ℕ) → IsNext g.now image group bound agino sector.now.bytes free → IsFound g.now image group bound self.old
+        ensures taken { (image : List Sector) (bound : ℕ) → IsNextInode g.now image group bound agino sector.now.bytes free
+            → GroupIsFound g.now image group bound self.old
+            → OnOk result (GroupIsFound g.now image group (agino + 1) self.new) }
+        ensures counted { (image : List Sector) (bound : ℕ) → IsNextInode g.now image group bound agino sector.now.bytes free → GroupIsFound g.now image group bound self.old
             → OnOk result (length self.new.links.orphans.entries ≡ length self.old.links.orphans.entries + one_if_orphan (row_unless g.now image group agino free)) }
-        ensures wrong { (image : List Sector) (bound : ℕ) → IsNext g.now image group bound agino sector.now.bytes free
-            → IsFound g.now image group bound self.old → IfErr result (CoreFault g.now image group) }
+        ensures wrong { (image : List Sector) (bound : ℕ) → IsNextInode g.now image group bound agino sector.now.bytes free
+            → GroupIsFound g.now image group bound self.old → IfErr result (CoreFault g.now image group) }
         ensures no_read { (before now : ℕ) → IfErr result (IsCaused before now) }
     {
         let Some(core) = right_core(g, group, agino, !free, sector) else {
@@ -157,17 +157,17 @@ impl Found {
     ) -> Result<(), CheckFault>
         requires shape { IsGeometry g.now }
         requires inside { group < g.now.groups }
-        requires chunk { IsChunk chunk.now }
+        requires chunk { IsChunkRecord chunk.now }
         requires in_data { IsInData g.now.blocks chunk.now }
         requires sectors { length sectors.now ≡ CHUNK_INODES }
         ensures taken { (image : List Sector) (bound : ℕ) → IsNextChunk g.now image group bound chunk.now → Shows image (sector_in g.now group chunk.now.start) sectors.now
-            → IsFound g.now image group bound self.old
-            → OnOk result (IsFound g.now image group (chunk.now.start + CHUNK_INODES) self.new) }
+            → GroupIsFound g.now image group bound self.old
+            → OnOk result (GroupIsFound g.now image group (chunk.now.start + CHUNK_INODES) self.new) }
         ensures counted { (image : List Sector) (bound : ℕ) → IsNextChunk g.now image group bound chunk.now → Shows image (sector_in g.now group chunk.now.start) sectors.now
-            → IsFound g.now image group bound self.old
+            → GroupIsFound g.now image group bound self.old
             → OnOk result (length self.new.links.orphans.entries ≡ length self.old.links.orphans.entries + chunk_orphans g.now image group chunk.now) }
         ensures wrong { (image : List Sector) (bound : ℕ) → IsNextChunk g.now image group bound chunk.now → Shows image (sector_in g.now group chunk.now.start) sectors.now
-            → IsFound g.now image group bound self.old → IfErr result (CoreFault g.now image group) }
+            → GroupIsFound g.now image group bound self.old → IfErr result (CoreFault g.now image group) }
         ensures no_read { (before now : ℕ) → IfErr result (IsCaused before now) }
     {
         for index in 0..CHUNK_INODES {

@@ -5,7 +5,7 @@ ghost use Rattle.life_limits.specs.declared.TheConstants.{LAST_PAGE_BLOCK};
 ghost use Rattle.geometry.specs.Places.{group_sectors};
 ghost use Rattle.geometry.specs.Shape.{IsGeometry};
 ghost use Rattle.ag_header.specs.Headers.{IsAgi};
-ghost use Rattle.sound_image.specs.Counts.{orphans_in};
+ghost use Rattle.sound_image.specs.Counts.{orphans_in_group};
 ghost use Rattle.sound_image.specs.Damage.{HoldsIn, tree};
 ghost use Rattle.sound_image.specs.Places.{sector_in};
 ghost use Rattle.sound_image.specs.Reading.{group_read, header_of, records_of};
@@ -126,7 +126,7 @@ pub(crate) fn check_inodes<V: View>(
         → IfOk result (λ found. AllGathered g.now (V.image view.old) group found.map found.fork found.shared
         × AllNoted g.now (V.image view.old) group found.links.orphans.entries found.links.pointing) }
     ensures counted { IsTrue V.known → records_of g.now (V.image view.old) group ≡ leaf.now
-        → IfOk result (λ found. length found.links.orphans.entries ≡ orphans_in (group_read g.now (V.image view.old) group)) }
+        → IfOk result (λ found. length found.links.orphans.entries ≡ orphans_in_group (group_read g.now (V.image view.old) group)) }
     ensures fault { IsTrue V.known → records_of g.now (V.image view.old) group ≡ leaf.now → IfErr result (CoreFault g.now (V.image view.old) group) }
     ensures cause { IfErr result (IsCaused (V.fault_count view.old) (V.fault_count view.new)) }
     ensures only_read { V.only_read view.old view.new }

@@ -6,7 +6,7 @@ ghost use Rattle.life_bytes.specs.declared.sector.Sector.{Sector};
 ghost use Rattle.geometry.specs.declared.shape.Geometry.{Geometry};
 ghost use Rattle.life_table.specs.declared.types.Row.{Row};
 ghost use Rattle.sound_image.specs.Reading.{core_of, row_at};
-ghost use Rattle.image_rules.specs.Listing.{Noted, next_of};
+ghost use Rattle.image_rules.specs.Listing.{Noted, next_pointer_of};
 ghost use Rattle.image_rules.specs.declared.fault.CheckFault.TheVariants.{NoMemory};
 
 use crate::fault::CheckFault;
@@ -42,7 +42,7 @@ impl Links {
         ensures noted { (g : Geometry) (image : List Sector) (group : ℕ) (row : Row) → core_of g image group agino ≡ core.now → row_at g image group agino ≡ Some row
             → row.links ≡ core.now.links → Noted g image group agino self.old.orphans.entries self.old.pointing
             → OnOk result (Noted g image group (agino + 1) self.new.orphans.entries self.new.pointing) }
-        ensures adds { next_of self.old.orphans.entries agino ≡ None → core.now.links ≡ 0 → OnOk result (length self.new.orphans.entries ≡ length self.old.orphans.entries + 1) }
+        ensures adds { next_pointer_of self.old.orphans.entries agino ≡ None → core.now.links ≡ 0 → OnOk result (length self.new.orphans.entries ≡ length self.old.orphans.entries + 1) }
         ensures keeps { core.now.links ≢ 0 → self.new.orphans.entries ≡ self.old.orphans.entries }
         ensures memory { IfErr result (λ fault. fault ≡ NoMemory) }
     {

@@ -10,7 +10,7 @@ ghost use Rattle.sound_image.specs.Places.{sector_in};
 ghost use Rattle.sound_image.specs.Reading.{header_of};
 ghost use Rattle.image_rules.specs.Faults.{AllHold, FaultIn, IsCaused, SpaceHolds};
 ghost use Rattle.image_rules.specs.declared.fault.CheckFault.TheVariants.{Damaged};
-ghost use Rattle.image_rules.specs.Listing.{AllNoted, AreUnmet, IsLeast, IsWalked, IsWrongAt, Takes, WalkedBelow, next_of};
+ghost use Rattle.image_rules.specs.Listing.{AllNoted, AreUnmet, IsLesser, IsWalked, IsWrongAt, Takes, WalkedBelow, next_pointer_of};
 
 use crate::fault::{CheckFault, LISTS_RULE, POINTERS_RULE};
 use crate::groups::{HEADER, sector_at};
@@ -23,7 +23,7 @@ use std::collections::BTreeMap;
 /// The next pointer of a member of a bucket that no pointer pointed at yet; it is met then.
 fn meet(unmet: &mut BTreeMap<u32, u32>, bucket: u32, agino: u32) -> Option<u32>
     ensures met { IfSome result (λ next. (agino % BUCKETS ≡ bucket) × Takes unmet.old.entries agino next unmet.new.entries) }
-    ensures other { IfNone result (agino % BUCKETS ≡ bucket → next_of unmet.old.entries agino ≡ None) }
+    ensures other { IfNone result (agino % BUCKETS ≡ bucket → next_pointer_of unmet.old.entries agino ≡ None) }
     ensures stay { IfNone result (unmet.new.entries ≡ unmet.old.entries) }
     ensures fewer { IfSome result (λ next. length unmet.new.entries < length unmet.old.entries) }
 {
@@ -40,7 +40,7 @@ fn walk(unmet: &mut BTreeMap<u32, u32>, bucket: u32, head: u32) -> Option<u32>
         → IfNone result (IsWalked g image group bucket unmet.new.entries) }
     ensures wrong { (g : Geometry) (image : List Sector) (group : ℕ) → slice_index (header_of g image group).heads bucket ≡ head → AreUnmet g image group bucket 0 unmet.old.entries
         → IfSome result (IsWrongAt g image group bucket) }
-    ensures others { (agino : ℕ) → agino % BUCKETS ≢ bucket → next_of unmet.new.entries agino ≡ next_of unmet.old.entries agino }
+    ensures others { (agino : ℕ) → agino % BUCKETS ≢ bucket → next_pointer_of unmet.new.entries agino ≡ next_pointer_of unmet.old.entries agino }
 {
     let mut holder = HEADER;
     let mut at = head;
@@ -56,7 +56,7 @@ fn walk(unmet: &mut BTreeMap<u32, u32>, bucket: u32, head: u32) -> Option<u32>
 
 /// The less of two numbers, where there are two.
 fn least(first: Option<u32>, second: Option<u32>) -> Option<u32>
-    ensures { IsLeast first second result }
+    ensures { IsLesser first second result }
 {
     match (first, second) {
         (Some(first), Some(second)) => Some(first.min(second)),
@@ -80,8 +80,8 @@ fn walk_all(unmet: &mut BTreeMap<u32, u32>, heads: &[u32; 64]) -> Option<u32>
 
 /// The least number for which there is a next pointer.
 fn first(unmet: &BTreeMap<u32, u32>) -> Option<u32>
-    ensures some { IfSome result (λ agino. IsSome (next_of unmet.now.entries agino) × ((other : ℕ) → IsSome (next_of unmet.now.entries other) → agino ≤ other)) }
-    ensures none { IfNone result ((other : ℕ) → next_of unmet.now.entries other ≡ None) }
+    ensures some { IfSome result (λ agino. IsSome (next_pointer_of unmet.now.entries agino) × ((other : ℕ) → IsSome (next_pointer_of unmet.now.entries other) → agino ≤ other)) }
+    ensures none { IfNone result ((other : ℕ) → next_pointer_of unmet.now.entries other ≡ None) }
 {
     let (agino, _) = unmet.first_key_value()?;
     Some(*agino)

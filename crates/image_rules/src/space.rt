@@ -3,7 +3,7 @@
 ghost use Rattle.std.specs.Prelude.{◌≡◌, ◌≤◌, ◌<◌, ◌*◌, IsTrue, IfOk, IfErr, OnOk};
 ghost use Rattle.geometry.specs.Places.{group_sectors};
 ghost use Rattle.geometry.specs.Shape.{IsGeometry};
-ghost use Rattle.sound_image.specs.Damage.{Rule, number_of, HoldsIn};
+ghost use Rattle.sound_image.specs.Damage.{Rule, groups_rule_number, HoldsIn};
 ghost use Rattle.sound_image.specs.Reading.{header_of, records_of};
 ghost use Rattle.image_rules.specs.Counted.{IsCounted};
 ghost use Rattle.image_rules.specs.Faults.{AllHold, FaultIn, IsCaused, SpaceHolds};

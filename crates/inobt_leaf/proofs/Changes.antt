@@ -7,19 +7,19 @@ use Rattle.std.proofs.lemmas.Bool.{cases_lt, cases_order, lt-ltb, le-ltb, le-leb
 use Rattle.std.proofs.lemmas.List.Edits.{get_or-insert_at, get_or-insert_below, get_or-insert_above, length-insert}
 use Rattle.std.proofs.lemmas.List.Elements.{All-append, All-cons, All-take, All-drop}
 use Rattle.std.proofs.lemmas.Nat.{and_le_l, or_lt, pow_below}
+use Rattle.life_bytes.specs.Bits.{is_set}
 use Rattle.inobt_leaf.specs.declared.chunk.ChunkRec.{ChunkRec}
-use Rattle.inobt_leaf.specs.Masks.{is_set}
-use Rattle.inobt_leaf.specs.Chunks.{Ascends, holds, IsChunk, IsLeaf, after_take, after_give, whole_chunk, with_chunk}
+use Rattle.inobt_leaf.specs.Chunks.{RecordsAscend, chunk_holds, IsChunkRecord, IsLeaf, after_take, after_give, whole_chunk, with_whole_chunk}
 use Rattle.inobt_leaf.proofs.OneBit.{clear_count, set_count}
 use Rattle.inobt_leaf.proofs.Places.{held_by, find-none}
 
 -- a chunk with a free inode counts one
-pub some_free : (agino : ℕ) (chunk : ChunkRec) → IsChunk chunk → holds agino chunk ≡ true → is_set chunk.mask (agino - chunk.start) ≡ true → 1 ≤ chunk.free
+pub some_free : (agino : ℕ) (chunk : ChunkRec) → IsChunkRecord chunk → chunk_holds agino chunk ≡ true → is_set chunk.mask (agino - chunk.start) ≡ true → 1 ≤ chunk.free
 some_free agino chunk is held free =
     let here = held_by agino chunk held in
     omega (arith, is.free, clear_count chunk.mask (agino - chunk.start) is.mask (omega (arith, here)) free)
 
-pub IsChunk-after_take : (agino : ℕ) (chunk : ChunkRec) → IsChunk chunk → holds agino chunk ≡ true → is_set chunk.mask (agino - chunk.start) ≡ true → IsChunk (after_take agino chunk)
+pub IsChunk-after_take : (agino : ℕ) (chunk : ChunkRec) → IsChunkRecord chunk → chunk_holds agino chunk ≡ true → is_set chunk.mask (agino - chunk.start) ≡ true → IsChunkRecord (after_take agino chunk)
 IsChunk-after_take agino chunk is held free =
     let here = held_by agino chunk held in
     let below = and_le_l chunk.mask (2 ^ 64 - 1 - 2 ^ (agino - chunk.start)) in
@@ -30,7 +30,7 @@ IsChunk-after_take agino chunk is held free =
       free = omega (arith, is.free, clear_count chunk.mask (agino - chunk.start) is.mask (omega (arith, here)) free);
     }
 
-pub IsChunk-after_give : (agino : ℕ) (chunk : ChunkRec) → IsChunk chunk → holds agino chunk ≡ true → is_set chunk.mask (agino - chunk.start) ≡ false → IsChunk (after_give agino chunk)
+pub IsChunk-after_give : (agino : ℕ) (chunk : ChunkRec) → IsChunkRecord chunk → chunk_holds agino chunk ≡ true → is_set chunk.mask (agino - chunk.start) ≡ false → IsChunkRecord (after_give agino chunk)
 IsChunk-after_give agino chunk is held taken =
     let here = held_by agino chunk held in
     record {
@@ -51,7 +51,7 @@ none_passes p (x ∷ xs) j d nothing h = split (p x) refl j h nothing (λ i l e.
     split false e zero h nothing rest = e
     split false e (suc j) h nothing rest = rest j (omega arith) nothing
 
--- a test that holds of a front and of nothing behind it
+-- a test that chunk_holds of a front and of nothing behind it
 pub filter_front : {X : Type 0} (p : X → Bool) (xs : List X) (n : ℕ) → ((k : ℕ) (d : X) → k < n → k < length xs → p (get_or xs k d) ≡ true)
     → ((k : ℕ) (d : X) → n ≤ k → k < length xs → p (get_or xs k d) ≡ false) → filter p xs ≡ take n xs
 filter_front p [] zero front behind = refl
@@ -72,8 +72,8 @@ filter_back {X = X} p (x ∷ xs) zero front behind =
 filter_back p (x ∷ xs) (suc n) front behind =
     cond-false _ _ _ (front 0 x (omega arith) (omega arith)) ∙ filter_back p xs n (λ k d h l. front (suc k) d (omega arith) (omega arith)) (λ k d h l. behind (suc k) d (omega arith) (omega arith))
 
--- a chunk holds its first inode
-holds_own : (chunk : ChunkRec) (start : ℕ) → chunk.start ≡ start → holds start chunk ≡ true
+-- a chunk chunk_holds its first inode
+holds_own : (chunk : ChunkRec) (start : ℕ) → chunk.start ≡ start → chunk_holds start chunk ≡ true
 holds_own chunk start e = and_from _ _ (le-leb chunk.start start (omega (arith, e))) (lt-ltb start (chunk.start + 64) (omega (arith, e)))
 
 -- where an inode's chunk would stand, by the starts
@@ -82,13 +82,13 @@ pub record Represents (chunks : List ChunkRec) (start n : ℕ) : Type 0 where
   pub before : (k : ℕ) (d : ChunkRec) → k < n → (get_or chunks k d).start < start
   pub after : (k : ℕ) (d : ChunkRec) → n ≤ k → k < length chunks → start < (get_or chunks k d).start
 
-pub stands : (chunks : List ChunkRec) (start n : ℕ) → find (holds start) chunks ≡ None → n ≤ length chunks
+pub stands : (chunks : List ChunkRec) (start n : ℕ) → find (chunk_holds start) chunks ≡ None → n ≤ length chunks
     → ((k : ℕ) (d : ChunkRec) → k < n → (get_or chunks k d).start ≤ start)
     → ((k : ℕ) (d : ChunkRec) → n ≤ k → k < length chunks → start < (get_or chunks k d).start) → Represents chunks start n
 stands chunks start n absent within before after = record {
   within = within;
   before = λ k d h.
-      let none = none_passes (holds start) chunks k d absent (omega arith) in
+      let none = none_passes (chunk_holds start) chunks k d absent (omega arith) in
       let le = before k d h in
       elim (cases_lt (get_or chunks k d).start start) [
         | inl lt ↦ lt
@@ -98,7 +98,7 @@ stands chunks start n absent within before after = record {
 }
 
 -- put in at that place
-pub insert-with_chunk : (chunks : List ChunkRec) (start n : ℕ) → Represents chunks start n → insert chunks n (whole_chunk start) ≡ with_chunk start chunks
+pub insert-with_chunk : (chunks : List ChunkRec) (start n : ℕ) → Represents chunks start n → insert chunks n (whole_chunk start) ≡ with_whole_chunk start chunks
 insert-with_chunk chunks start n at =
     let front : filter (λ c. ltb c.start start) chunks ≡ take n chunks =
     filter_front (λ c. ltb c.start start) chunks n (λ k d h l. lt-ltb _ _ (at.before k d h)) (λ k d h l. le-ltb _ _ (omega (arith, at.after k d h l))) in
@@ -106,7 +106,7 @@ insert-with_chunk chunks start n at =
     filter_back (λ c. ltb start c.start) chunks n (λ k d h l. le-ltb _ _ (omega (arith, at.before k d h))) (λ k d h l. lt-ltb _ _ (at.after k d h l)) in
     rw (front, back) refl
 
-IsChunk-whole : (start : ℕ) → start < 2 ^ 32 → start % 64 ≡ 0 → IsChunk (whole_chunk start)
+IsChunk-whole : (start : ℕ) → start < 2 ^ 32 → start % 64 ≡ 0 → IsChunkRecord (whole_chunk start)
 IsChunk-whole start fits aligned = record { start = fits; mask = omega arith; aligned = aligned; free = sym (ones-ones 64) }
 
 -- starts after the insert
@@ -122,7 +122,7 @@ start_above chunks new n k d within h =
     ap (λ (m : ℕ). (get_or (insert chunks n new) m d).start) e ∙ ap (λ (c : ChunkRec). c.start) (get_or-insert_above chunks n new d (k - 1) (omega arith) within)
 
 -- chunks that ascend, with one more put in where it stands
-Ascends-insert : (chunks : List ChunkRec) (new : ChunkRec) (n : ℕ) → Ascends chunks → Represents chunks new.start n → Ascends (insert chunks n new)
+Ascends-insert : (chunks : List ChunkRec) (new : ChunkRec) (n : ℕ) → RecordsAscend chunks → Represents chunks new.start n → RecordsAscend (insert chunks n new)
 Ascends-insert chunks new n ascends at i j d l h =
     let many = length-insert chunks n new at.within in
     elim (cases_order j n) [
@@ -149,14 +149,14 @@ pub IsLeaf-insert : (chunks : List ChunkRec) (start n : ℕ) → IsLeaf chunks �
 IsLeaf-insert chunks start n leaf room fits aligned at = record {
   few = omega (arith, room, length-insert chunks n (whole_chunk start) at.within);
   each =
-      All-append IsChunk (take n chunks) (whole_chunk start ∷ drop n chunks) (All-take IsChunk n chunks leaf.each)
-      (All-cons IsChunk (whole_chunk start) (drop n chunks) (IsChunk-whole start fits aligned) (All-drop IsChunk n chunks leaf.each));
+      All-append IsChunkRecord (take n chunks) (whole_chunk start ∷ drop n chunks) (All-take IsChunkRecord n chunks leaf.each)
+      (All-cons IsChunkRecord (whole_chunk start) (drop n chunks) (IsChunk-whole start fits aligned) (All-drop IsChunkRecord n chunks leaf.each));
   ascends = Ascends-insert chunks (whole_chunk start) n leaf.ascends at;
 }
 
 -- what is found has a place
-pub no_place : (chunks : List ChunkRec) (agino : ℕ) (P : ChunkRec → Type 0) → ((k : ℕ) (d : ChunkRec) → k < length chunks → ¬ (holds agino (get_or chunks k d) ≡ true))
-    → IsSomeAnd (find (holds agino) chunks) P → ⊥
+pub no_place : (chunks : List ChunkRec) (agino : ℕ) (P : ChunkRec → Type 0) → ((k : ℕ) (d : ChunkRec) → k < length chunks → ¬ (chunk_holds agino (get_or chunks k d) ≡ true))
+    → IsSomeAnd (find (chunk_holds agino) chunks) P → ⊥
 no_place chunks agino P none found =
     subst (λ (o : Option ChunkRec). IsSomeAnd o P)
-    (find-none (holds agino) chunks record { start = 0; free = 0; mask = 0 } (λ j h. false_from_ne_true _ (none j _ h))) found
+    (find-none (chunk_holds agino) chunks record { start = 0; free = 0; mask = 0 } (λ j h. false_from_ne_true _ (none j _ h))) found

@@ -7,7 +7,8 @@ use Rattle.std.proofs.lemmas.Bool.{eqb-true, eqb-false}
 use Rattle.std.proofs.lemmas.Nat.{one_shl, or_disjoint, ones_cat, and-not, and_comm, mod_below, pow_pos, pow_below}
 use Rattle.std.proofs.lemmas.Nat.Bits.{and_pow, bit_at-lt, bit_at_clear_same, bit_at_clear_other, bit_at_set_same, bit_at_set_other}
 use Rattle.std.proofs.Math.Nat.{div-add-mod', add-mul, one-mul}
-use Rattle.inobt_leaf.specs.Masks.{is_set, without_bit, with_bit}
+use Rattle.life_bytes.specs.Bits.{is_set}
+use Rattle.inobt_leaf.specs.Masks.{without_bit, with_bit}
 
 pub clear_here : (mask i : ℕ) → mask < 2 ^ 64 → i < 64 → is_set (without_bit mask i) i ≡ false
 clear_here mask i fits h =

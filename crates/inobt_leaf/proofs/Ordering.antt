@@ -3,17 +3,17 @@ use Rattle.std.proofs.Common.{◌≡◌, ◌<◌, ◌+◌, ◌-◌, ℕ, List, l
 use Rattle.std.proofs.lemmas.Bool.{cases_lt}
 use Rattle.std.proofs.lemmas.List.{get_or_default}
 use Rattle.inobt_leaf.specs.declared.chunk.ChunkRec.{ChunkRec}
-use Rattle.inobt_leaf.specs.Chunks.{IsChunk}
+use Rattle.inobt_leaf.specs.Chunks.{IsChunkRecord}
 
 -- what holds of those before a place, and of the one there
-pub each_more : (chunks : List ChunkRec) (i : ℕ) (e : ChunkRec) → i < length chunks → ((k : ℕ) (d : ChunkRec) → k < i → IsChunk (get_or chunks k d))
-    → IsChunk (get_or chunks i e) → (k : ℕ) (d : ChunkRec) → k < i + 1 → IsChunk (get_or chunks k d)
+pub each_more : (chunks : List ChunkRec) (i : ℕ) (e : ChunkRec) → i < length chunks → ((k : ℕ) (d : ChunkRec) → k < i → IsChunkRecord (get_or chunks k d))
+    → IsChunkRecord (get_or chunks i e) → (k : ℕ) (d : ChunkRec) → k < i + 1 → IsChunkRecord (get_or chunks k d)
 each_more chunks i e within before here k d h =
     elim (cases_lt k i) [
       | inl low ↦ before k d low
       | inr high ↦
           let at : i ≡ k = omega arith in
-          subst (λ (n : ℕ). IsChunk (get_or chunks n d)) at (subst IsChunk (get_or_default chunks i e d within) here)
+          subst (λ (n : ℕ). IsChunkRecord (get_or chunks n d)) at (subst IsChunkRecord (get_or_default chunks i e d within) here)
     ]
 
 -- those before a place ascend, and the one there starts behind the last of them

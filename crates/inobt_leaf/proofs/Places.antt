@@ -7,10 +7,10 @@ use Rattle.std.proofs.lemmas.Bool.{cases_lt, cases_eq, cases_order, leb-true, lt
 use Rattle.std.proofs.lemmas.List.{ext_get_or, length-set, length-map, get_or-map, get_or_default}
 use Rattle.std.proofs.lemmas.List.Elements.{All-get_or, All-set}
 use Rattle.inobt_leaf.specs.declared.chunk.ChunkRec.{ChunkRec}
-use Rattle.inobt_leaf.specs.Chunks.{Ascends, holds, IsChunk, IsLeaf, where_held}
+use Rattle.inobt_leaf.specs.Chunks.{RecordsAscend, chunk_holds, IsChunkRecord, IsLeaf, where_held}
 
 -- those that start at or before an inode stand in front
-pub parted : (chunks : List ChunkRec) (agino : ℕ) → Ascends chunks → IsPartitionedBy (λ c. leb c.start agino) chunks
+pub parted : (chunks : List ChunkRec) (agino : ℕ) → RecordsAscend chunks → IsPartitionedBy (λ c. leb c.start agino) chunks
 parted chunks agino ascends i j d le within passes =
     elim (cases_lt i j) [
       | inl lt ↦ le-leb _ _ (omega (arith, ascends i j d lt within, leb-true _ _ passes))
@@ -29,40 +29,40 @@ pub find-none : {X : Type 0} (p : X → Bool) (xs : List X) (d : X) → ((j : �
 find-none p [] d none = refl
 find-none p (x ∷ xs) d none = cond-false _ _ _ (none 0 (omega arith)) ∙ find-none p xs d (λ j l. none (suc j) (omega arith))
 
--- what it means that a chunk holds an inode
-pub held_by : (agino : ℕ) (chunk : ChunkRec) → holds agino chunk ≡ true → (chunk.start ≤ agino) × (agino < chunk.start + 64)
+-- what it means that a chunk chunk_holds an inode
+pub held_by : (agino : ℕ) (chunk : ChunkRec) → chunk_holds agino chunk ≡ true → (chunk.start ≤ agino) × (agino < chunk.start + 64)
 held_by agino chunk held =
     let both = and_parts (leb chunk.start agino) (ltb agino (chunk.start + 64)) held in
     (leb-true chunk.start agino both.0, ltb-true agino (chunk.start + 64) both.1)
 
-pub not_held_before : (agino : ℕ) (chunk : ChunkRec) → agino < chunk.start → holds agino chunk ≡ false
+pub not_held_before : (agino : ℕ) (chunk : ChunkRec) → agino < chunk.start → chunk_holds agino chunk ≡ false
 not_held_before agino chunk h = and_left (leb chunk.start agino) (ltb agino (chunk.start + 64)) (lt-leb chunk.start agino h)
 
-pub not_held_after : (agino : ℕ) (chunk : ChunkRec) → chunk.start + 64 ≤ agino → holds agino chunk ≡ false
+pub not_held_after : (agino : ℕ) (chunk : ChunkRec) → chunk.start + 64 ≤ agino → chunk_holds agino chunk ≡ false
 not_held_after agino chunk h = and_right (leb chunk.start agino) (ltb agino (chunk.start + 64)) (le-ltb agino (chunk.start + 64) h)
 
 -- chunks at multiples of 64 share no inode
-pub before_holds : (chunks : List ChunkRec) (agino k : ℕ) (d : ChunkRec) → IsLeaf chunks → k < length chunks → holds agino (get_or chunks k d) ≡ true
-    → (j : ℕ) → j < k → holds agino (get_or chunks j d) ≡ false
+pub before_holds : (chunks : List ChunkRec) (agino k : ℕ) (d : ChunkRec) → IsLeaf chunks → k < length chunks → chunk_holds agino (get_or chunks k d) ≡ true
+    → (j : ℕ) → j < k → chunk_holds agino (get_or chunks j d) ≡ false
 before_holds chunks agino k d leaf h held j l =
     let here = held_by agino (get_or chunks k d) held in
     let up = leaf.ascends j k d l h in
-    let mine = (All-get_or IsChunk chunks k d h leaf.each).aligned in
-    let other = (All-get_or IsChunk chunks j d (omega arith) leaf.each).aligned in
+    let mine = (All-get_or IsChunkRecord chunks k d h leaf.each).aligned in
+    let other = (All-get_or IsChunkRecord chunks j d (omega arith) leaf.each).aligned in
     not_held_after agino (get_or chunks j d) (omega (arith, up, mine, other, here))
 
-pub after_holds : (chunks : List ChunkRec) (agino k : ℕ) (d : ChunkRec) → IsLeaf chunks → holds agino (get_or chunks k d) ≡ true
-    → (j : ℕ) → k < j → j < length chunks → holds agino (get_or chunks j d) ≡ false
+pub after_holds : (chunks : List ChunkRec) (agino k : ℕ) (d : ChunkRec) → IsLeaf chunks → chunk_holds agino (get_or chunks k d) ≡ true
+    → (j : ℕ) → k < j → j < length chunks → chunk_holds agino (get_or chunks j d) ≡ false
 after_holds chunks agino k d leaf held j l h =
     let here = held_by agino (get_or chunks k d) held in
     let up = leaf.ascends k j d l h in
-    let mine = (All-get_or IsChunk chunks k d (omega arith) leaf.each).aligned in
-    let other = (All-get_or IsChunk chunks j d h leaf.each).aligned in
+    let mine = (All-get_or IsChunkRecord chunks k d (omega arith) leaf.each).aligned in
+    let other = (All-get_or IsChunkRecord chunks j d h leaf.each).aligned in
     not_held_before agino (get_or chunks j d) (omega (arith, up, mine, other, here))
 
--- the one chunk that holds the inode is changed
+-- the one chunk that chunk_holds the inode is changed
 pub map-where_held : (chunks : List ChunkRec) (agino k : ℕ) (d : ChunkRec) (change : ChunkRec → ChunkRec) → IsLeaf chunks → k < length chunks
-    → holds agino (get_or chunks k d) ≡ true → set chunks k (change (get_or chunks k d)) ≡ map (where_held agino change) chunks
+    → chunk_holds agino (get_or chunks k d) ≡ true → set chunks k (change (get_or chunks k d)) ≡ map (where_held agino change) chunks
 map-where_held chunks agino k d change leaf h held =
     ext_get_or d (set chunks k (change (get_or chunks k d))) (map (where_held agino change) chunks)
     (length-set chunks k _ ∙ sym (length-map chunks (where_held agino change)))
@@ -73,7 +73,7 @@ map-where_held chunks agino k d change leaf h held =
           rw (e, get_or-set_same chunks k (change (get_or chunks k d)) d h)
           (sym (get_or-map (where_held agino change) chunks k d d h ∙ cond-true _ _ _ held))
       | inr ne ↦
-          let other : holds agino (get_or chunks j d) ≡ false = elim ne [
+          let other : chunk_holds agino (get_or chunks j d) ≡ false = elim ne [
             | inl below ↦ before_holds chunks agino k d leaf h held j below
             | inr above ↦ after_holds chunks agino k d leaf held j above within
           ] in
@@ -82,18 +82,18 @@ map-where_held chunks agino k d change leaf h held =
           ∙ sym (get_or-map (where_held agino change) chunks j d d within ∙ cond-false _ _ _ other)
     ])
 
--- what `find` gave is at the place that holds it
-pub found_at : (chunks : List ChunkRec) (agino k : ℕ) (d : ChunkRec) (P : ChunkRec → Type 0) → IsLeaf chunks → k < length chunks → holds agino (get_or chunks k d) ≡ true
-    → IsSomeAnd (find (holds agino) chunks) P → P (get_or chunks k d)
+-- what `find` gave is at the place that chunk_holds it
+pub found_at : (chunks : List ChunkRec) (agino k : ℕ) (d : ChunkRec) (P : ChunkRec → Type 0) → IsLeaf chunks → k < length chunks → chunk_holds agino (get_or chunks k d) ≡ true
+    → IsSomeAnd (find (chunk_holds agino) chunks) P → P (get_or chunks k d)
 found_at chunks agino k d P leaf h held found =
-    subst (λ (o : Option ChunkRec). IsSomeAnd o P) (find-at (holds agino) chunks k d h held (before_holds chunks agino k d leaf h held)) found
+    subst (λ (o : Option ChunkRec). IsSomeAnd o P) (find-at (chunk_holds agino) chunks k d h held (before_holds chunks agino k d leaf h held)) found
 
 -- a leaf after one chunk changed and kept its start
-pub leaf-set : (chunks : List ChunkRec) (k : ℕ) (d chunk : ChunkRec) → IsLeaf chunks → k < length chunks → IsChunk chunk → chunk.start ≡ (get_or chunks k d).start
+pub leaf-set : (chunks : List ChunkRec) (k : ℕ) (d chunk : ChunkRec) → IsLeaf chunks → k < length chunks → IsChunkRecord chunk → chunk.start ≡ (get_or chunks k d).start
     → IsLeaf (set chunks k chunk)
 leaf-set chunks k d chunk leaf h is same = record {
   few = omega (arith, length-set chunks k chunk, leaf.few);
-  each = All-set IsChunk chunks k chunk is leaf.each;
+  each = All-set IsChunkRecord chunks k chunk is leaf.each;
   ascends = λ i j e l m.
       let within : j < length chunks = omega (arith, m, length-set chunks k chunk) in
       let start_of : (n : ℕ) → n < length chunks → (get_or (set chunks k chunk) n e).start ≡ (get_or chunks n d).start = λ n inside.

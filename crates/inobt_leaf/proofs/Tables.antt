@@ -3,69 +3,69 @@ use Rattle.std.proofs.Common.{◌≡◌, ◌<◌, ◌≤◌, ◌+◌, ◌*◌, �
 use Rattle.std.specs.List.{slice_get}
 use Rattle.std.proofs.lemmas.List.{append_assoc, append-nil, length-take-le, take_more}
 use Rattle.life_bytes.specs.Fields.{with_piece}
-use Rattle.life_bytes.specs.Pieces.{Row, placed}
-use Rattle.life_bytes.specs.TableLaws.{AreRows, IsAside, is_aside, placed_other, row_at, length-placed}
+use Rattle.life_bytes.specs.Pieces.{Field, placed}
+use Rattle.life_bytes.specs.TableLaws.{AreFields, IsAside, is_aside, placed_other, field_at, length-placed}
 use Rattle.inobt_leaf.specs.declared.chunk.ChunkRec.{ChunkRec}
-use Rattle.inobt_leaf.specs.Pages.{chunk_rows, records}
+use Rattle.inobt_leaf.specs.Pages.{chunk_rows, chunk_records}
 
 -- one table put in after another
-pub placed-append : (xs ys : List Row) (base : List ℕ) → placed (xs ++ ys) base ≡ placed ys (placed xs base)
+pub placed-append : (xs ys : List Field) (base : List ℕ) → placed (xs ++ ys) base ≡ placed ys (placed xs base)
 unfolding placed
 placed-append [] ys base = refl
 placed-append (x ∷ xs) ys base = placed-append xs ys (with_piece x.width x.at x.bytes base)
 
-pub records-append : (place : ℕ) (xs ys : List ChunkRec) → records place (xs ++ ys) ≡ records place xs ++ records (place + 16 * length xs) ys
-records-append place [] ys = let e : place + 16 * 0 ≡ place = omega arith in ap (λ (p : ℕ). records p ys) (sym e)
+pub records-append : (place : ℕ) (xs ys : List ChunkRec) → chunk_records place (xs ++ ys) ≡ chunk_records place xs ++ chunk_records (place + 16 * length xs) ys
+records-append place [] ys = let e : place + 16 * 0 ≡ place = omega arith in ap (λ (p : ℕ). chunk_records p ys) (sym e)
 records-append place (x ∷ xs) ys =
     let e : place + 16 + 16 * length xs ≡ place + 16 * suc (length xs) = omega arith in
-    ap (λ (rows : List Row). chunk_rows place x ++ rows) (records-append (place + 16) xs ys ∙ ap (λ (p : ℕ). records (place + 16) xs ++ records p ys) e)
-    ∙ sym (append_assoc (chunk_rows place x) (records (place + 16) xs) (records (place + 16 * suc (length xs)) ys))
+    ap (λ (rows : List Field). chunk_rows place x ++ rows) (records-append (place + 16) xs ys ∙ ap (λ (p : ℕ). chunk_records (place + 16) xs ++ chunk_records p ys) e)
+    ∙ sym (append_assoc (chunk_rows place x) (chunk_records (place + 16) xs) (chunk_records (place + 16 * suc (length xs)) ys))
 
 -- one record more
 pub records_more : (chunks : List ChunkRec) (i : ℕ) (d : ChunkRec) (base : List ℕ) → i < length chunks
-    → placed (chunk_rows (56 + 16 * i) (get_or chunks i d)) (placed (records 56 (take i chunks)) base) ≡ placed (records 56 (take (i + 1) chunks)) base
+    → placed (chunk_rows (56 + 16 * i) (get_or chunks i d)) (placed (chunk_records 56 (take i chunks)) base) ≡ placed (chunk_records 56 (take (i + 1) chunks)) base
 records_more chunks i d base h =
     let count : length (take i chunks) ≡ i = length-take-le i chunks (omega arith) in
     let chunk : ChunkRec = get_or chunks i d in
     sym (
-    ap (λ (cs : List ChunkRec). placed (records 56 cs) base) (take_more chunks i d h)
-    ∙ ap (λ (rows : List Row). placed rows base) (
+    ap (λ (cs : List ChunkRec). placed (chunk_records 56 cs) base) (take_more chunks i d h)
+    ∙ ap (λ (rows : List Field). placed rows base) (
     records-append 56 (take i chunks) (chunk ∷ [])
-    ∙ ap (λ (n : ℕ). records 56 (take i chunks) ++ records (56 + 16 * n) (chunk ∷ [])) count
-    ∙ ap (λ (rows : List Row). records 56 (take i chunks) ++ rows) (append-nil (chunk_rows (56 + 16 * i) chunk)))
-    ∙ placed-append (records 56 (take i chunks)) (chunk_rows (56 + 16 * i) chunk) base)
+    ∙ ap (λ (n : ℕ). chunk_records 56 (take i chunks) ++ chunk_records (56 + 16 * n) (chunk ∷ [])) count
+    ∙ ap (λ (rows : List Field). chunk_records 56 (take i chunks) ++ rows) (append-nil (chunk_rows (56 + 16 * i) chunk)))
+    ∙ placed-append (chunk_records 56 (take i chunks)) (chunk_rows (56 + 16 * i) chunk) base)
 
 -- rows within a page
-AreRows-append : (size : ℕ) (xs ys : List Row) → AreRows size xs → AreRows size ys → AreRows size (xs ++ ys)
+AreRows-append : (size : ℕ) (xs ys : List Field) → AreFields size xs → AreFields size ys → AreFields size (xs ++ ys)
 AreRows-append size [] ys a b = b
 AreRows-append size (x ∷ xs) ys a b = (a.0, AreRows-append size xs ys a.1 b)
 
-pub AreRows-chunk : (size place : ℕ) (chunk : ChunkRec) → place + 16 ≤ size → AreRows size (chunk_rows place chunk)
+pub AreRows-chunk : (size place : ℕ) (chunk : ChunkRec) → place + 16 ≤ size → AreFields size (chunk_rows place chunk)
 AreRows-chunk size place chunk h = ((omega arith, refl), ((omega arith, refl), ((omega arith, refl), tt)))
 
-pub AreRows-records : (size place : ℕ) (chunks : List ChunkRec) → place + 16 * length chunks ≤ size → AreRows size (records place chunks)
+pub AreRows-records : (size place : ℕ) (chunks : List ChunkRec) → place + 16 * length chunks ≤ size → AreFields size (chunk_records place chunks)
 AreRows-records size place [] h = tt
 AreRows-records size place (x ∷ xs) h =
-    AreRows-append size (chunk_rows place x) (records (place + 16) xs) (AreRows-chunk size place x (omega arith)) (AreRows-records size (place + 16) xs (omega arith))
+    AreRows-append size (chunk_rows place x) (chunk_records (place + 16) xs) (AreRows-chunk size place x (omega arith)) (AreRows-records size (place + 16) xs (omega arith))
 
--- the records have no byte before their place
-pub IsAside-records : (at n place : ℕ) (chunks : List ChunkRec) → at + n ≤ place → IsAside at n (records place chunks)
+-- the chunk_records have no byte before their place
+pub IsAside-records : (at n place : ℕ) (chunks : List ChunkRec) → at + n ≤ place → IsAside at n (chunk_records place chunks)
 IsAside-records at n place [] h = tt
 IsAside-records at n place (x ∷ xs) h =
     (inr (omega arith), (inr (omega arith), (inr (omega arith), IsAside-records at n (place + 16) xs (omega arith))))
 
 -- what a row holds among tables before and after its own
-pub row_among : (before mid after : List Row) (k : ℕ) (row : Row) (base : List ℕ)
-    → AreRows (length base) before → AreRows (length base) mid → AreRows (length base) after
+pub row_among : (before mid after : List Field) (k : ℕ) (row : Field) (base : List ℕ)
+    → AreFields (length base) before → AreFields (length base) mid → AreFields (length base) after
     → slice_get mid k ≡ Some row → is_aside row.at row.width (drop (k + 1) mid) ≡ true → IsAside row.at row.width after
     → take row.width (drop row.at (placed (before ++ (mid ++ after)) base)) ≡ row.bytes
 row_among before mid after k row base a b c found aside apart =
     let first : List ℕ = placed before base in
     let second : List ℕ = placed mid first in
     let long : length first ≡ length base = length-placed before base a in
-    let b' : AreRows (length first) mid = subst (λ (n : ℕ). AreRows n mid) (sym long) b in
+    let b' : AreFields (length first) mid = subst (λ (n : ℕ). AreFields n mid) (sym long) b in
     let long' : length second ≡ length base = length-placed mid first b' ∙ long in
-    let c' : AreRows (length second) after = subst (λ (n : ℕ). AreRows n after) (sym long') c in
+    let c' : AreFields (length second) after = subst (λ (n : ℕ). AreFields n after) (sym long') c in
     ap (λ (bytes : List ℕ). take row.width (drop row.at bytes)) (placed-append before (mid ++ after) base ∙ placed-append mid after first)
     ∙ placed_other after second row.at row.width c' apart
-    ∙ row_at mid k row first b' found aside
+    ∙ field_at mid k row first b' found aside

@@ -7,12 +7,12 @@ use Rattle.std.proofs.lemmas.List.FromFn.{length-map-range_with_len, get_or-map-
 use Rattle.std.proofs.lemmas.Nat.{ones-le}
 use Rattle.std.proofs.lemmas.Bool.{and_from, or_right, le-leb}
 use Rattle.life_bytes.specs.Fields.{field}
-use Rattle.life_bytes.specs.Pieces.{Row, number, placed, sealed}
+use Rattle.life_bytes.specs.Pieces.{Field, number, placed, sealed}
 use Rattle.life_bytes.specs.PieceLaws.{Apart}
-use Rattle.life_bytes.specs.TableLaws.{AreRows, IsAside, is_aside, number_at, length-placed, length-sealed, sealed_other}
+use Rattle.life_bytes.specs.TableLaws.{AreFields, IsAside, is_aside, number_at, length-placed, length-sealed, sealed_other}
 use Rattle.inobt_leaf.specs.declared.chunk.ChunkRec.{ChunkRec}
-use Rattle.inobt_leaf.specs.Chunks.{IsChunk, IsLeaf}
-use Rattle.inobt_leaf.specs.Pages.{header, chunk_rows, records, blank_page, encoding, chunk_at, chunks_in}
+use Rattle.inobt_leaf.specs.Chunks.{IsChunkRecord, IsLeaf}
+use Rattle.inobt_leaf.specs.Pages.{page_header, chunk_rows, chunk_records, blank_page, page_encoding, chunk_at, chunks_in}
 use Rattle.inobt_leaf.specs.PageLaws.{PagesAreRead}
 use Rattle.inobt_leaf.proofs.Tables.{row_among, AreRows-chunk, AreRows-records, IsAside-records, records-append}
 
@@ -20,67 +20,67 @@ length-blank_page : length blank_page ≡ 4096
 unfolding blank_page
 length-blank_page = length-replicate {A = ℕ} 4096 0
 
-AreRows-header : (count group at : ℕ) (uuid : List ℕ) → length uuid ≡ 16 → AreRows 4096 (header count group at uuid)
+AreRows-header : (count group at : ℕ) (uuid : List ℕ) → length uuid ≡ 16 → AreFields 4096 (page_header count group at uuid)
 AreRows-header count group at uuid is =
     ((lit≤ tt, refl), ((lit≤ tt, refl), ((lit≤ tt, refl), ((lit≤ tt, refl), ((lit≤ tt, refl), ((lit≤ tt, is), ((lit≤ tt, refl), tt)))))))
 
-in_page : (rows : List Row) → AreRows 4096 rows → AreRows (length blank_page) rows
-in_page rows h = subst (λ (n : ℕ). AreRows n rows) (sym length-blank_page) h
+in_page : (rows : List Field) → AreFields 4096 rows → AreFields (length blank_page) rows
+in_page rows h = subst (λ (n : ℕ). AreFields n rows) (sym length-blank_page) h
 
-AreRows-append : (size : ℕ) (xs ys : List Row) → AreRows size xs → AreRows size ys → AreRows size (xs ++ ys)
+AreRows-append : (size : ℕ) (xs ys : List Field) → AreFields size xs → AreFields size ys → AreFields size (xs ++ ys)
 AreRows-append size [] ys a b = b
 AreRows-append size (x ∷ xs) ys a b = (a.0, AreRows-append size xs ys a.1 b)
 
 -- a number of a table among others, in a page whose checksum stands at byte 52
-number_among : (before mid after : List Row) (k at n v : ℕ) → AreRows 4096 before → AreRows 4096 mid → AreRows 4096 after
+number_among : (before mid after : List Field) (k at n v : ℕ) → AreFields 4096 before → AreFields 4096 mid → AreFields 4096 after
     → slice_get mid k ≡ Some (number at n v) → is_aside at n (drop (k + 1) mid) ≡ true → IsAside at n after → Apart 52 4 at n → v < 256 ^ n
     → field n at (sealed 52 (placed (before ++ (mid ++ after)) blank_page)) ≡ v
 number_among before mid after k at n v a b c found aside apart beside small =
     let bytes : List ℕ = placed (before ++ (mid ++ after)) blank_page in
-    let rows : AreRows 4096 (before ++ (mid ++ after)) = AreRows-append 4096 before (mid ++ after) a (AreRows-append 4096 mid after b c) in
+    let rows : AreFields 4096 (before ++ (mid ++ after)) = AreRows-append 4096 before (mid ++ after) a (AreRows-append 4096 mid after b c) in
     let long : length bytes ≡ 4096 = length-placed (before ++ (mid ++ after)) blank_page (in_page (before ++ (mid ++ after)) rows) ∙ length-blank_page in
     number_at n at v (sealed 52 bytes) small (
     sealed_other 52 bytes n at (omega (arith, long)) beside
     ∙ row_among before mid after k (number at n v) blank_page (in_page before a) (in_page mid b) (in_page after c) found aside apart)
 
--- the count in the header
+-- the count in the page_header
 pub count_says : (chunks : List ChunkRec) (group at : ℕ) (uuid : List ℕ) → length uuid ≡ 16 → length chunks ≤ 252
-    → field 2 6 (encoding chunks group at uuid) ≡ length chunks
-unfolding encoding
+    → field 2 6 (page_encoding chunks group at uuid) ≡ length chunks
+unfolding page_encoding
 count_says chunks group at uuid is few =
-    number_among [] (header (length chunks) group at uuid) (records 56 chunks) 1 6 2 (length chunks) tt
+    number_among [] (page_header (length chunks) group at uuid) (chunk_records 56 chunks) 1 6 2 (length chunks) tt
     (AreRows-header (length chunks) group at uuid is) (AreRows-records 4096 56 chunks (omega arith)) refl refl
     (IsAside-records 6 2 56 chunks (omega arith)) (inr (omega arith)) (omega arith)
 
 -- the table of a page as what stands before a record, the record, and what stands behind
 parts : (chunks : List ChunkRec) (group at : ℕ) (uuid : List ℕ) (i : ℕ) (d : ChunkRec) → i < length chunks
-    → header (length chunks) group at uuid ++ records 56 chunks
-    ≡ (header (length chunks) group at uuid ++ records 56 (take i chunks))
-    ++ (chunk_rows (56 + 16 * i) (get_or chunks i d) ++ records (56 + 16 * i + 16) (drop (i + 1) chunks))
+    → page_header (length chunks) group at uuid ++ chunk_records 56 chunks
+    ≡ (page_header (length chunks) group at uuid ++ chunk_records 56 (take i chunks))
+    ++ (chunk_rows (56 + 16 * i) (get_or chunks i d) ++ chunk_records (56 + 16 * i + 16) (drop (i + 1) chunks))
 parts chunks group at uuid i d h =
-    let h' : List Row = header (length chunks) group at uuid in
-    let front : List Row = records 56 (take i chunks) in
+    let h' : List Field = page_header (length chunks) group at uuid in
+    let front : List Field = chunk_records 56 (take i chunks) in
     let count : length (take i chunks) ≡ i = length-take-le i chunks (omega arith) in
-    let split : records 56 chunks ≡ front ++ records (56 + 16 * i) (get_or chunks i d ∷ drop (i + 1) chunks) =
-    ap (records 56) (sym (take-append-drop i chunks))
+    let split : chunk_records 56 chunks ≡ front ++ chunk_records (56 + 16 * i) (get_or chunks i d ∷ drop (i + 1) chunks) =
+    ap (chunk_records 56) (sym (take-append-drop i chunks))
     ∙ records-append 56 (take i chunks) (drop i chunks)
-    ∙ ap (λ (n : ℕ). front ++ records (56 + 16 * n) (drop i chunks)) count
-    ∙ ap (λ (cs : List ChunkRec). front ++ records (56 + 16 * i) cs) (drop_more chunks i d h) in
-    ap (λ (rows : List Row). h' ++ rows) split ∙ sym (append_assoc h' front (records (56 + 16 * i) (get_or chunks i d ∷ drop (i + 1) chunks)))
+    ∙ ap (λ (n : ℕ). front ++ chunk_records (56 + 16 * n) (drop i chunks)) count
+    ∙ ap (λ (cs : List ChunkRec). front ++ chunk_records (56 + 16 * i) cs) (drop_more chunks i d h) in
+    ap (λ (rows : List Field). h' ++ rows) split ∙ sym (append_assoc h' front (chunk_records (56 + 16 * i) (get_or chunks i d ∷ drop (i + 1) chunks)))
 
 -- a number of record i
 field_says : (chunks : List ChunkRec) (group at : ℕ) (uuid : List ℕ) (i : ℕ) (d : ChunkRec) (k place n v : ℕ) → length uuid ≡ 16 → length chunks ≤ 252 → i < length chunks
     → slice_get (chunk_rows (56 + 16 * i) (get_or chunks i d)) k ≡ Some (number place n v)
     → is_aside place n (drop (k + 1) (chunk_rows (56 + 16 * i) (get_or chunks i d))) ≡ true
-    → 56 ≤ place → place + n ≤ 56 + 16 * i + 16 → v < 256 ^ n → field n place (encoding chunks group at uuid) ≡ v
-unfolding encoding
+    → 56 ≤ place → place + n ≤ 56 + 16 * i + 16 → v < 256 ^ n → field n place (page_encoding chunks group at uuid) ≡ v
+unfolding page_encoding
 field_says chunks group at uuid i d k place n v is few h found aside low high small =
-    let front : List Row = header (length chunks) group at uuid ++ records 56 (take i chunks) in
+    let front : List Field = page_header (length chunks) group at uuid ++ chunk_records 56 (take i chunks) in
     let count : length (take i chunks) ≡ i = length-take-le i chunks (omega arith) in
     let left : length (drop (i + 1) chunks) ≡ length chunks - (i + 1) = length-drop (i + 1) chunks in
-    ap (λ (rows : List Row). field n place (sealed 52 (placed rows blank_page))) (parts chunks group at uuid i d h)
-    ∙ number_among front (chunk_rows (56 + 16 * i) (get_or chunks i d)) (records (56 + 16 * i + 16) (drop (i + 1) chunks)) k place n v
-    (AreRows-append 4096 (header (length chunks) group at uuid) (records 56 (take i chunks)) (AreRows-header (length chunks) group at uuid is) (AreRows-records 4096 56 (take i chunks) (omega (arith, count))))
+    ap (λ (rows : List Field). field n place (sealed 52 (placed rows blank_page))) (parts chunks group at uuid i d h)
+    ∙ number_among front (chunk_rows (56 + 16 * i) (get_or chunks i d)) (chunk_records (56 + 16 * i + 16) (drop (i + 1) chunks)) k place n v
+    (AreRows-append 4096 (page_header (length chunks) group at uuid) (chunk_records 56 (take i chunks)) (AreRows-header (length chunks) group at uuid is) (AreRows-records 4096 56 (take i chunks) (omega (arith, count))))
     (AreRows-chunk 4096 (56 + 16 * i) (get_or chunks i d) (omega arith))
     (AreRows-records 4096 (56 + 16 * i + 16) (drop (i + 1) chunks) (omega (arith, left)))
     found aside (IsAside-records place n (56 + 16 * i + 16) (drop (i + 1) chunks) high) (inl (omega arith)) small
@@ -90,16 +90,16 @@ chunk_of a b c = record { start = a; free = b; mask = c }
 
 -- record i
 pub chunk_says : (chunks : List ChunkRec) (group at : ℕ) (uuid : List ℕ) (i : ℕ) (d : ChunkRec) → IsLeaf chunks → length uuid ≡ 16 → i < length chunks
-    → chunk_at (encoding chunks group at uuid) (56 + 16 * i) ≡ get_or chunks i d
+    → chunk_at (page_encoding chunks group at uuid) (56 + 16 * i) ≡ get_or chunks i d
 chunk_says chunks group at uuid i d leaf is h =
     let chunk : ChunkRec = get_or chunks i d in
-    let fits : IsChunk chunk = All-get_or IsChunk chunks i d h leaf.each in
+    let fits : IsChunkRecord chunk = All-get_or IsChunkRecord chunks i d h leaf.each in
     let p : ℕ = 56 + 16 * i in
-    let start : field 4 p (encoding chunks group at uuid) ≡ chunk.start =
+    let start : field 4 p (page_encoding chunks group at uuid) ≡ chunk.start =
     field_says chunks group at uuid i d 0 p 4 chunk.start is leaf.few h refl (two_aside p) (omega arith) (omega arith) (omega (arith, fits.start)) in
-    let free : field 4 (p + 4) (encoding chunks group at uuid) ≡ chunk.free =
+    let free : field 4 (p + 4) (page_encoding chunks group at uuid) ≡ chunk.free =
     field_says chunks group at uuid i d 1 (p + 4) 4 chunk.free is leaf.few h refl (one_aside p) (omega arith) (omega arith) (omega (arith, fits.free, ones-le 64 chunk.mask fits.mask)) in
-    let mask : field 8 (p + 8) (encoding chunks group at uuid) ≡ chunk.mask =
+    let mask : field 8 (p + 8) (page_encoding chunks group at uuid) ≡ chunk.mask =
     field_says chunks group at uuid i d 2 (p + 8) 8 chunk.mask is leaf.few h refl refl (omega arith) (omega arith) (omega (arith, fits.mask)) in
     made start free mask
   where
@@ -116,9 +116,9 @@ chunk_says chunks group at uuid i d leaf is h =
 
 -- the chunks that a page says are those that it encodes
 pub page_says : (chunks : List ChunkRec) (group at : ℕ) (uuid : List ℕ) → IsLeaf chunks → length uuid ≡ 16
-    → map (λ i. chunk_at (encoding chunks group at uuid) (56 + 16 * i)) (range_with_len 0 (length chunks)) ≡ chunks
+    → map (λ i. chunk_at (page_encoding chunks group at uuid) (56 + 16 * i)) (range_with_len 0 (length chunks)) ≡ chunks
 page_says chunks group at uuid leaf is =
-    let f : ℕ → ChunkRec = λ i. chunk_at (encoding chunks group at uuid) (56 + 16 * i) in
+    let f : ℕ → ChunkRec = λ i. chunk_at (page_encoding chunks group at uuid) (56 + 16 * i) in
     same_lists (map f (range_with_len 0 (length chunks))) chunks (length-map-range_with_len f 0 (length chunks))
     (λ k d l.
     let below : k < length chunks = omega (arith, l, length-map-range_with_len f 0 (length chunks)) in
@@ -126,7 +126,7 @@ page_says chunks group at uuid leaf is =
 
 -- what is read of a page is what it encodes
 pub read_again : (chunks read : List ChunkRec) (bytes : List ℕ) (count group at : ℕ) (uuid : List ℕ) → IsLeaf chunks → length uuid ≡ 16
-    → bytes ≡ encoding chunks group at uuid → count ≡ field 2 6 bytes → read ≡ map (λ i. chunk_at bytes (56 + 16 * i)) (range_with_len 0 count) → read ≡ chunks
+    → bytes ≡ page_encoding chunks group at uuid → count ≡ field 2 6 bytes → read ≡ map (λ i. chunk_at bytes (56 + 16 * i)) (range_with_len 0 count) → read ≡ chunks
 read_again chunks read bytes count group at uuid leaf is encoded counted got =
     let many : count ≡ length chunks = counted ∙ ap (field 2 6) encoded ∙ count_says chunks group at uuid is leaf.few in
     got
@@ -135,26 +135,26 @@ read_again chunks read bytes count group at uuid leaf is encoded counted got =
     ∙ page_says chunks group at uuid leaf is
 
 -- a page's length
-pub length-encoding : (chunks : List ChunkRec) (group at : ℕ) (uuid : List ℕ) → IsLeaf chunks → length uuid ≡ 16 → length (encoding chunks group at uuid) ≡ 4096
-unfolding encoding
+pub length-encoding : (chunks : List ChunkRec) (group at : ℕ) (uuid : List ℕ) → IsLeaf chunks → length uuid ≡ 16 → length (page_encoding chunks group at uuid) ≡ 4096
+unfolding page_encoding
 length-encoding chunks group at uuid leaf is =
-    let table : List Row = header (length chunks) group at uuid ++ records 56 chunks in
-    let rows : AreRows 4096 table =
-    AreRows-append 4096 (header (length chunks) group at uuid) (records 56 chunks) (AreRows-header (length chunks) group at uuid is) (AreRows-records 4096 56 chunks (omega (arith, leaf.few))) in
+    let table : List Field = page_header (length chunks) group at uuid ++ chunk_records 56 chunks in
+    let rows : AreFields 4096 table =
+    AreRows-append 4096 (page_header (length chunks) group at uuid) (chunk_records 56 chunks) (AreRows-header (length chunks) group at uuid is) (AreRows-records 4096 56 chunks (omega (arith, leaf.few))) in
     let long : length (placed table blank_page) ≡ 4096 = length-placed table blank_page (in_page table rows) ∙ length-blank_page in
     length-sealed 52 (placed table blank_page) (omega (arith, long)) ∙ long
 
 -- one page, one leaf
 pub encoding-injective : (a b : List ChunkRec) (group at : ℕ) (uuid : List ℕ) → IsLeaf a → IsLeaf b → length uuid ≡ 16
-    → encoding a group at uuid ≡ encoding b group at uuid → a ≡ b
+    → page_encoding a group at uuid ≡ page_encoding b group at uuid → a ≡ b
 encoding-injective a b group at uuid leaf_a leaf_b is same =
-    sym (read_again a _ (encoding a group at uuid) (field 2 6 (encoding a group at uuid)) group at uuid leaf_a is refl refl refl)
-    ∙ read_again b _ (encoding a group at uuid) (field 2 6 (encoding a group at uuid)) group at uuid leaf_b is same refl refl
+    sym (read_again a _ (page_encoding a group at uuid) (field 2 6 (page_encoding a group at uuid)) group at uuid leaf_a is refl refl refl)
+    ∙ read_again b _ (page_encoding a group at uuid) (field 2 6 (page_encoding a group at uuid)) group at uuid leaf_b is same refl refl
 
 pub pages_are_read : PagesAreRead
 pages_are_read = record {
   read = λ chunks group at uuid leaf is.
-      let page : List ℕ = encoding chunks group at uuid in
+      let page : List ℕ = page_encoding chunks group at uuid in
       read_again chunks (chunks_in page) page (field 2 6 page) group at uuid leaf is refl refl refl;
   long = length-encoding;
 }

@@ -2,10 +2,6 @@
 use Rattle.std.specs.Prelude.{◌^◌, ◌==◌, ℕ, Bool, bit_and, bit_or}
 use Rattle.std.specs.Int.{bit_at, bit_not, w64}
 
--- whether bit i is set
-abbrev pub is_set : ℕ → ℕ → Bool
-is_set mask i = bit_at mask i == 1
-
 -- the mask with bit i clear, and with bit i set
 abbrev pub without_bit : ℕ → ℕ → ℕ
 without_bit mask i = bit_and mask (bit_not w64 (2 ^ i))

@@ -3,22 +3,22 @@ use Rattle.std.specs.Prelude.{◌+◌, ◌*◌, ℕ, List, [], ◌∷◌, ◌++�
 use Rattle.std.specs.List.{range_with_len}
 use Rattle.life_limits.specs.declared.TheConstants.{BLOCK_BYTES}
 use Rattle.life_bytes.specs.Fields.{field}
-use Rattle.life_bytes.specs.Pieces.{Row, number, piece, placed, sealed}
+use Rattle.life_bytes.specs.Pieces.{Field, number, piece, placed, sealed}
 use Rattle.inobt_leaf.specs.declared.chunk.ChunkRec.{ChunkRec}
 
 -- `IAB3` in ASCII
-abbrev pub magic : ℕ
-magic = 0x4941_4233
+abbrev pub page_magic : ℕ
+page_magic = 0x4941_4233
 
 -- what stands in place of a sibling's block where there is none
 abbrev pub no_sibling : ℕ
 no_sibling = 0xFFFF_FFFF
 
--- the header of a leaf of so many records, of a group, whose first sector has this place in the image; the level and
+-- the page_header of a leaf of so many chunk_records, of a group, whose first sector has this place in the image; the level and
 -- the lsn are zero
-abbrev pub header : ℕ → ℕ → ℕ → List ℕ → List Row
-header count group at uuid =
-    number 0 4 magic
+abbrev pub page_header : ℕ → ℕ → ℕ → List ℕ → List Field
+page_header count group at uuid =
+    number 0 4 page_magic
     ∷ number 6 2 count
     ∷ number 8 4 no_sibling
     ∷ number 12 4 no_sibling
@@ -28,30 +28,30 @@ header count group at uuid =
     ∷ []
 
 -- a chunk's record of 16 bytes
-abbrev pub chunk_rows : ℕ → ChunkRec → List Row
+abbrev pub chunk_rows : ℕ → ChunkRec → List Field
 chunk_rows place chunk =
     number place 4 chunk.start
     ∷ number (place + 4) 4 chunk.free
     ∷ number (place + 8) 8 chunk.mask
     ∷ []
 
--- the records from a place on
-abbrev pub records : ℕ → List ChunkRec → List Row
-records place [] = []
-records place (chunk ∷ chunks) = chunk_rows place chunk ++ records (place + 16) chunks
+-- the chunk_records from a place on
+abbrev pub chunk_records : ℕ → List ChunkRec → List Field
+chunk_records place [] = []
+chunk_records place (chunk ∷ chunks) = chunk_rows place chunk ++ chunk_records (place + 16) chunks
 
 -- a page of zero bytes
 unfoldable pub blank_page : List ℕ
 blank_page = replicate BLOCK_BYTES 0
 
 -- the page: its fields over zeros, and the checksum at byte 52
-unfoldable pub encoding : List ChunkRec → ℕ → ℕ → List ℕ → List ℕ
-encoding chunks group at uuid = sealed 52 (placed (header (length chunks) group at uuid ++ records 56 chunks) blank_page)
+unfoldable pub page_encoding : List ChunkRec → ℕ → ℕ → List ℕ → List ℕ
+page_encoding chunks group at uuid = sealed 52 (placed (page_header (length chunks) group at uuid ++ chunk_records 56 chunks) blank_page)
 
 -- the record that stands at a place
 abbrev pub chunk_at : List ℕ → ℕ → ChunkRec
 chunk_at bytes place = record { start = field 4 place bytes; free = field 4 (place + 4) bytes; mask = field 8 (place + 8) bytes }
 
--- the chunks that a page's records give, whatever else the page holds
+-- the chunks that a page's chunk_records give, whatever else the page holds
 abbrev pub chunks_in : List ℕ → List ChunkRec
 chunks_in bytes = map (λ i. chunk_at bytes (56 + 16 * i)) (range_with_len 0 (field 2 6 bytes))

@@ -1,9 +1,9 @@
 // The leaf in memory.
 
 ghost use Rattle.std.specs.Prelude.{◌≡◌, ◌↔◌, ◌+◌, ◌-◌, ◌%◌, ◌≤◌, ◌<◌, ℕ, true, false, [], length, find, map, None, IsSomeAnd, IsOk, Err, OnOk, OnErr};
+ghost use Rattle.life_bytes.specs.Bits.{is_set};
 ghost use Rattle.life_limits.specs.declared.TheConstants.{MAX_CHUNKS};
-ghost use Rattle.inobt_leaf.specs.Chunks.{holds, IsLeaf, after_take, after_give, where_held, with_chunk};
-ghost use Rattle.inobt_leaf.specs.Masks.{is_set};
+ghost use Rattle.inobt_leaf.specs.Chunks.{chunk_holds, IsLeaf, after_take, after_give, where_held, with_whole_chunk};
 
 use crate::chunk::ChunkRec;
 use crate::records::{count_up_to, find_chunk, give_in, take_in};
@@ -79,14 +79,14 @@ impl Leaf {
 
     /// The chunk that holds an inode. A search by halves.
     pub fn find(&self, agino: u32) -> Option<ChunkRec>
-        ensures { result ≡ find (holds agino) self.now }
+        ensures { result ≡ find (chunk_holds agino) self.now }
     {
         find_chunk(self.chunks.as_slice(), agino)
     }
 
     /// Takes a free inode of a chunk.
     pub fn take(&mut self, agino: u32)
-        requires { IsSomeAnd (find (holds agino) self.old) (λ chunk. is_set chunk.mask (agino - chunk.start) ≡ true) }
+        requires { IsSomeAnd (find (chunk_holds agino) self.old) (λ chunk. is_set chunk.mask (agino - chunk.start) ≡ true) }
         ensures changed { self.new ≡ map (where_held agino (after_take agino)) self.old }
         ensures leaf { IsLeaf self.new }
     {
@@ -95,7 +95,7 @@ impl Leaf {
 
     /// Gives an inode of a chunk back.
     pub fn give(&mut self, agino: u32)
-        requires { IsSomeAnd (find (holds agino) self.old) (λ chunk. is_set chunk.mask (agino - chunk.start) ≡ false) }
+        requires { IsSomeAnd (find (chunk_holds agino) self.old) (λ chunk. is_set chunk.mask (agino - chunk.start) ≡ false) }
         ensures changed { self.new ≡ map (where_held agino (after_give agino)) self.old }
         ensures leaf { IsLeaf self.new }
     {
@@ -105,8 +105,8 @@ impl Leaf {
     /// Adds a chunk whose 64 inodes are free. The leaf keeps its allocator, so this takes none.
     pub fn add(&mut self, start: u32) -> Result<(), LeafFault>
         requires aligned { start % 64 ≡ 0 }
-        requires absent { find (holds start) self.old ≡ None }
-        ensures ok { OnOk result (self.new ≡ with_chunk start self.old) }
+        requires absent { find (chunk_holds start) self.old ≡ None }
+        ensures ok { OnOk result (self.new ≡ with_whole_chunk start self.old) }
         ensures leaf { IsLeaf self.new }
         ensures full { (result ≡ Err LeafFault.LeafFull) ↔ (length self.old ≡ MAX_CHUNKS) }
         ensures err { OnErr result (self.new ≡ self.old) }

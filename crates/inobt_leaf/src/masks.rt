@@ -1,7 +1,8 @@
 // Masks of 64 bits.
 
 ghost use Rattle.std.specs.Prelude.{◌≡◌, ◌≢◌, ◌+◌, ◌^◌, ◌<◌, ℕ, true, false, count_ones};
-ghost use Rattle.inobt_leaf.specs.Masks.{is_set, without_bit, with_bit};
+ghost use Rattle.life_bytes.specs.Bits.{is_set};
+ghost use Rattle.inobt_leaf.specs.Masks.{without_bit, with_bit};
 
 /// The mask without bit `i`.
 pub fn cleared(mask: u64, i: u32) -> u64

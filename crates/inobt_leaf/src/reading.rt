@@ -4,8 +4,8 @@ ghost use Rattle.std.specs.Prelude.{◌≡◌, ◌↔◌, ◌+◌, ◌*◌, ◌�
 ghost use Rattle.std.specs.List.{range_with_len};
 ghost use Rattle.life_limits.specs.declared.TheConstants.{MAX_CHUNKS};
 ghost use Rattle.life_bytes.specs.SectorBytes.{bytes_of};
-ghost use Rattle.inobt_leaf.specs.Chunks.{IsChunk, IsLeaf};
-ghost use Rattle.inobt_leaf.specs.Pages.{encoding, chunk_at};
+ghost use Rattle.inobt_leaf.specs.Chunks.{IsChunkRecord, IsLeaf};
+ghost use Rattle.inobt_leaf.specs.Pages.{page_encoding, chunk_at};
 ghost use Rattle.inobt_leaf.specs.declared.chunk.ChunkRec.{ChunkRec};
 
 use crate::chunk::ChunkRec;
@@ -36,7 +36,7 @@ impl From<AllocError> for PageFault {
 }
 
 fn is_chunk(chunk: &ChunkRec) -> bool
-    ensures { IsTrue result ↔ IsChunk chunk.now }
+    ensures { IsTrue result ↔ IsChunkRecord chunk.now }
 {
     chunk.start % CHUNK_INODES == 0 && chunk.free == chunk.mask.count_ones()
 }
@@ -83,8 +83,8 @@ fn read_records(alloc: Global, bytes: &[u8], count: usize) -> Result<Vec<ChunkRe
 /// Whether the bytes are the page of these chunks, byte by byte.
 fn is_page_of(chunks: &[ChunkRec], bytes: &[u8], group: u32, at: u64, uuid: &[u8; 16]) -> bool
     requires { length chunks.now ≤ MAX_CHUNKS }
-    ensures sound { IsTrue result → IsLeaf chunks.now × (bytes.now ≡ encoding chunks.now group at uuid.now) }
-    ensures complete { IsLeaf chunks.now → bytes.now ≡ encoding chunks.now group at uuid.now → IsTrue result }
+    ensures sound { IsTrue result → IsLeaf chunks.now × (bytes.now ≡ page_encoding chunks.now group at uuid.now) }
+    ensures complete { IsLeaf chunks.now → bytes.now ≡ page_encoding chunks.now group at uuid.now → IsTrue result }
 {
     is_leaf(chunks) && bytes == encode(chunks, group, at, uuid).as_slice()
 }
@@ -101,10 +101,10 @@ pub fn read_page(
 ) -> Result<Leaf, PageFault>
     requires { length page.now ≡ 8 }
     // What is read is encoded so.
-    ensures found { IfOk result (λ leaf. IsLeaf leaf × (bytes_of page.now ≡ encoding leaf group at uuid.now)) }
+    ensures found { IfOk result (λ leaf. IsLeaf leaf × (bytes_of page.now ≡ page_encoding leaf group at uuid.now)) }
 
     // What is encoded so is read, unless memory runs out; so a page is malformed only where no leaf is encoded so.
-    ensures only { (chunks : List ChunkRec) → IsLeaf chunks → bytes_of page.now ≡ encoding chunks group at uuid.now
+    ensures only { (chunks : List ChunkRec) → IsLeaf chunks → bytes_of page.now ≡ page_encoding chunks group at uuid.now
         → MatchResult result (λ leaf. leaf ≡ chunks) (λ fault. fault ≡ PageFault.NoMemory) }
 {
     let bytes = gather(page);

@@ -1,8 +1,8 @@
 // Ascending records of chunks, as a slice.
 
 ghost use Rattle.std.specs.Prelude.{◌≡◌, ◌+◌, ◌%◌, ◌≤◌, ◌<◌, ◌↔◌, ℕ, IsTrue, length, find, map, slice_index_or, true, false, ◌-◌, IsSomeAnd, IfSome, IfNone};
-ghost use Rattle.inobt_leaf.specs.Chunks.{holds, Ascends, IsChunk, IsLeaf, after_take, after_give, where_held};
-ghost use Rattle.inobt_leaf.specs.Masks.{is_set};
+ghost use Rattle.life_bytes.specs.Bits.{is_set};
+ghost use Rattle.inobt_leaf.specs.Chunks.{chunk_holds, RecordsAscend, IsChunkRecord, IsLeaf, after_take, after_give, where_held};
 ghost use Rattle.inobt_leaf.specs.declared.chunk.ChunkRec.{ChunkRec};
 
 use crate::chunk::ChunkRec;
@@ -11,7 +11,7 @@ use life_limits::CHUNK_INODES;
 
 /// How many chunks start at or before an inode.
 pub fn count_up_to(chunks: &[ChunkRec], agino: u32) -> usize
-    requires { Ascends chunks.now }
+    requires { RecordsAscend chunks.now }
     ensures within { result ≤ length chunks.now }
     ensures before { (k : ℕ) (d : ChunkRec) → k < result → (slice_index_or chunks.now k d).start ≤ agino }
     ensures after { (k : ℕ) (d : ChunkRec) → result ≤ k → k < length chunks.now → agino < (slice_index_or chunks.now k d).start }
@@ -22,8 +22,8 @@ pub fn count_up_to(chunks: &[ChunkRec], agino: u32) -> usize
 /// The place of the chunk that holds an inode.
 pub fn place_of(chunks: &[ChunkRec], agino: u32) -> Option<usize>
     requires { IsLeaf chunks.now }
-    ensures some { IfSome result (λ k. (k < length chunks.now) × ((d : ChunkRec) → IsTrue (holds agino (slice_index_or chunks.now k d)))) }
-    ensures none { IfNone result ((k : ℕ) (d : ChunkRec) → k < length chunks.now → ¬ IsTrue (holds agino (slice_index_or chunks.now k d))) }
+    ensures some { IfSome result (λ k. (k < length chunks.now) × ((d : ChunkRec) → IsTrue (chunk_holds agino (slice_index_or chunks.now k d)))) }
+    ensures none { IfNone result ((k : ℕ) (d : ChunkRec) → k < length chunks.now → ¬ IsTrue (chunk_holds agino (slice_index_or chunks.now k d))) }
 {
     let place = count_up_to(chunks, agino).checked_sub(1)?;
     if agino - chunks[place].start < CHUNK_INODES {
@@ -36,7 +36,7 @@ pub fn place_of(chunks: &[ChunkRec], agino: u32) -> Option<usize>
 /// The chunk that holds an inode.
 pub fn find_chunk(chunks: &[ChunkRec], agino: u32) -> Option<ChunkRec>
     requires { IsLeaf chunks.now }
-    ensures { result ≡ find (holds agino) chunks.now }
+    ensures { result ≡ find (chunk_holds agino) chunks.now }
 {
     match place_of(chunks, agino) {
         Some(place) => Some(chunks[place]),
@@ -47,7 +47,7 @@ pub fn find_chunk(chunks: &[ChunkRec], agino: u32) -> Option<ChunkRec>
 /// Takes a free inode of a chunk.
 pub fn take_in(chunks: &mut [ChunkRec], agino: u32)
     requires leaf { IsLeaf chunks.old }
-    requires free { IsSomeAnd (find (holds agino) chunks.old) (λ chunk. is_set chunk.mask (agino - chunk.start) ≡ true) }
+    requires free { IsSomeAnd (find (chunk_holds agino) chunks.old) (λ chunk. is_set chunk.mask (agino - chunk.start) ≡ true) }
     ensures changed { chunks.new ≡ map (where_held agino (after_take agino)) chunks.old }
     ensures leaf { IsLeaf chunks.new }
 {
@@ -65,7 +65,7 @@ pub fn take_in(chunks: &mut [ChunkRec], agino: u32)
 /// Gives an inode of a chunk back.
 pub fn give_in(chunks: &mut [ChunkRec], agino: u32)
     requires leaf { IsLeaf chunks.old }
-    requires taken { IsSomeAnd (find (holds agino) chunks.old) (λ chunk. is_set chunk.mask (agino - chunk.start) ≡ false) }
+    requires taken { IsSomeAnd (find (chunk_holds agino) chunks.old) (λ chunk. is_set chunk.mask (agino - chunk.start) ≡ false) }
     ensures changed { chunks.new ≡ map (where_held agino (after_give agino)) chunks.old }
     ensures leaf { IsLeaf chunks.new }
 {

@@ -4,7 +4,7 @@ ghost use Rattle.std.specs.Prelude.{◌≡◌, ◌+◌, ◌≤◌, [], length};
 ghost use Rattle.life_limits.specs.declared.TheConstants.{BLOCK_BYTES, MAX_CHUNKS};
 ghost use Rattle.life_bytes.specs.Pieces.{placed};
 ghost use Rattle.life_bytes.specs.SectorBytes.{bytes_of};
-ghost use Rattle.inobt_leaf.specs.Pages.{header, blank_page, chunk_rows, records, encoding};
+ghost use Rattle.inobt_leaf.specs.Pages.{page_header, blank_page, chunk_rows, chunk_records, page_encoding};
 
 use crate::chunk::ChunkRec;
 use crate::leaf::Leaf;
@@ -32,7 +32,7 @@ fn blank_page() -> [u8; PAGE_BYTES]
 
 fn put_header(bytes: &mut [u8], count: u16, group: u32, at: u64, uuid: &[u8; 16])
     requires { length bytes.old ≡ BLOCK_BYTES }
-    ensures { bytes.new ≡ placed (header count group at uuid.now) bytes.old }
+    ensures { bytes.new ≡ placed (page_header count group at uuid.now) bytes.old }
 {
     put_u32(bytes, 0, MAGIC);
     put_u16(bytes, 6, count);
@@ -55,7 +55,7 @@ fn put_record(bytes: &mut [u8], place: usize, chunk: &ChunkRec)
 fn put_records(bytes: &mut [u8], chunks: &[ChunkRec])
     requires long { length bytes.old ≡ BLOCK_BYTES }
     requires few { length chunks.now ≤ MAX_CHUNKS }
-    ensures { bytes.new ≡ placed (records 56 chunks.now) bytes.old }
+    ensures { bytes.new ≡ placed (chunk_records 56 chunks.now) bytes.old }
 {
     for (index, chunk) in chunks.iter().enumerate() {
         put_record(bytes, HEADER_BYTES + RECORD_BYTES * index, chunk);
@@ -65,7 +65,7 @@ fn put_records(bytes: &mut [u8], chunks: &[ChunkRec])
 /// The bytes of the page of a leaf.
 pub fn encode(chunks: &[ChunkRec], group: u32, at: u64, uuid: &[u8; 16]) -> [u8; PAGE_BYTES]
     requires { length chunks.now ≤ MAX_CHUNKS }
-    ensures { result ≡ encoding chunks.now group at uuid.now }
+    ensures { result ≡ page_encoding chunks.now group at uuid.now }
 {
     let mut bytes = blank_page();
     put_header(&mut bytes, chunks.len() as u16, group, at, uuid);
@@ -85,7 +85,7 @@ pub fn write_page(
     page: &mut [Sector],
 )
     requires { length page.old ≡ 8 }
-    ensures { bytes_of page.new ≡ encoding leaf.now group at uuid.now }
+    ensures { bytes_of page.new ≡ page_encoding leaf.now group at uuid.now }
 {
     let bytes = encode(leaf.chunks(), group, at, uuid);
     scatter(&bytes, page);
@@ -94,7 +94,7 @@ pub fn write_page(
 /// Writes the page of a leaf without chunks, which takes no memory: the place is named as for `write_page`.
 pub fn write_empty_page(group: u32, at: u64, uuid: &[u8; 16], page: &mut [Sector])
     requires { length page.old ≡ 8 }
-    ensures { bytes_of page.new ≡ encoding [] group at uuid.now }
+    ensures { bytes_of page.new ≡ page_encoding [] group at uuid.now }
 {
     let bytes = encode(&[], group, at, uuid);
     scatter(&bytes, page);

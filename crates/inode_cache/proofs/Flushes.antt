@@ -8,9 +8,9 @@ use Rattle.life_bytes.specs.declared.sector.Sector.{Sector}
 use Rattle.std.specs.Map.{lookup}
 use Rattle.std.specs.Option.{option_map}
 use Rattle.inode_cache.specs.declared.inode.Kept.{Kept}
-use Rattle.inode_cache.specs.Inodes.{inode_bytes}
-use Rattle.inode_cache.specs.Caches.{Cache, IsClean, inode_at}
-use Rattle.inode_cache.specs.Flush.{IsFlushed, IsFlushedAt, cleaned, flushed_bytes, flushed_of, member, row_bytes, row_of}
+use Rattle.inode_cache.specs.Inodes.{incore_encoding}
+use Rattle.inode_cache.specs.Caches.{Cache, IsClean, incore_at}
+use Rattle.inode_cache.specs.Flush.{IsFlushed, IsFlushedAt, cleaned, flushed_bytes, flushed_of, member, row_bytes, cluster_sector}
 use Rattle.inode_cache.proofs.Maps.{at_entries, cache_of, seen}
 
 pub none_flushed : (cache : Cache) (group : ℕ) (uuid : List ℕ) (es fs : List (ℕ × Kept)) (before after agino : ℕ) → cache_of group uuid es before ≡ cache
@@ -42,18 +42,18 @@ pub clean_again : (kept : Kept) → kept.dirty ≡ false → kept ≡ cleaned ke
 clean_again kept e = ap (λ (d : Bool). let k : Kept = record { inode = kept.inode; dirty = d } in k) e
 
 -- the buffers of an inode that is not in core, of a clean one, and of a dirty one
-pub none_buffer : (cache : Cache) (agino : ℕ) (buffer : List ℕ) → inode_at cache agino ≡ None → buffer ≡ flushed_bytes cache agino buffer
+pub none_buffer : (cache : Cache) (agino : ℕ) (buffer : List ℕ) → incore_at cache agino ≡ None → buffer ≡ flushed_bytes cache agino buffer
 none_buffer cache agino buffer none = sym (ap (flushed_of cache agino buffer) none)
 
-pub clean_buffer : (cache : Cache) (agino : ℕ) (buffer : List ℕ) (kept : Kept) → inode_at cache agino ≡ Some kept → kept.dirty ≡ false → buffer ≡ flushed_bytes cache agino buffer
+pub clean_buffer : (cache : Cache) (agino : ℕ) (buffer : List ℕ) (kept : Kept) → incore_at cache agino ≡ Some kept → kept.dirty ≡ false → buffer ≡ flushed_bytes cache agino buffer
 clean_buffer cache agino buffer kept there clean =
-    sym (ap (flushed_of cache agino buffer) there ∙ cond-false kept.dirty (inode_bytes cache.group cache.uuid agino kept.inode) buffer clean)
+    sym (ap (flushed_of cache agino buffer) there ∙ cond-false kept.dirty (incore_encoding cache.group cache.uuid agino kept.inode) buffer clean)
 
 pub dirty_buffer : (cache : Cache) (group : ℕ) (uuid : List ℕ) (es : List (ℕ × Kept)) (before agino : ℕ) (buffer new : List ℕ) (kept : Kept) → cache_of group uuid es before ≡ cache
-    → inode_at cache agino ≡ Some kept → kept.dirty ≡ true → new ≡ inode_bytes group uuid agino kept.inode → new ≡ flushed_bytes cache agino buffer
+    → incore_at cache agino ≡ Some kept → kept.dirty ≡ true → new ≡ incore_encoding group uuid agino kept.inode → new ≡ flushed_bytes cache agino buffer
 dirty_buffer cache group uuid es before agino buffer new kept is there dirty encoded =
-    encoded ∙ ap (λ (c : Cache). inode_bytes c.group c.uuid agino kept.inode) is
-    ∙ sym (ap (flushed_of cache agino buffer) there ∙ cond-true kept.dirty (inode_bytes cache.group cache.uuid agino kept.inode) buffer dirty)
+    encoded ∙ ap (λ (c : Cache). incore_encoding c.group c.uuid agino kept.inode) is
+    ∙ sym (ap (flushed_of cache agino buffer) there ∙ cond-true kept.dirty (incore_encoding cache.group cache.uuid agino kept.inode) buffer dirty)
 
 -- ---- a cluster
 
@@ -61,8 +61,8 @@ dirty_buffer cache group uuid es before agino buffer new kept is there dirty enc
 pub record Flushing (cluster : ℕ) (cache : Cache) (old : List Sector) (now : Cache) (into : List Sector) (place : ℕ) : Type 0 where
   pub done : (k : ℕ) (d : Sector) → k < place → (get_or into k d).bytes ≡ flushed_bytes cache (member cluster k) (get_or old k d).bytes
   pub ahead : (k : ℕ) (d : Sector) → place ≤ k → get_or into k d ≡ get_or old k d
-  pub inside : (k : ℕ) → k < place → inode_at now (member cluster k) ≡ option_map cleaned (inode_at cache (member cluster k))
-  pub outside : (agino : ℕ) → ((k : ℕ) → k < place → agino ≢ member cluster k) → inode_at now agino ≡ inode_at cache agino
+  pub inside : (k : ℕ) → k < place → incore_at now (member cluster k) ≡ option_map cleaned (incore_at cache (member cluster k))
+  pub outside : (agino : ℕ) → ((k : ℕ) → k < place → agino ≢ member cluster k) → incore_at now agino ≡ incore_at cache agino
   pub group : now.group ≡ cache.group
   pub uuid : now.uuid ≡ cache.uuid
   pub spare : now.spare ≡ cache.spare
@@ -79,16 +79,16 @@ flushing_none cluster cache old = record {
 }
 
 -- caches that have the same inode flush the same buffer
-flushed_same : (now cache : Cache) (agino : ℕ) (buffer : List ℕ) → inode_at now agino ≡ inode_at cache agino → now.group ≡ cache.group → now.uuid ≡ cache.uuid
+flushed_same : (now cache : Cache) (agino : ℕ) (buffer : List ℕ) → incore_at now agino ≡ incore_at cache agino → now.group ≡ cache.group → now.uuid ≡ cache.uuid
     → flushed_bytes now agino buffer ≡ flushed_bytes cache agino buffer
 flushed_same now cache agino buffer here group uuid =
-    ap (flushed_of now agino buffer) here ∙ by_case (inode_at cache agino)
+    ap (flushed_of now agino buffer) here ∙ by_case (incore_at cache agino)
   where
     by_case : (o : Option Kept) → flushed_of now agino buffer o ≡ flushed_of cache agino buffer o
     by_case None = refl
     by_case (Some kept) =
-        ap (λ (g : ℕ). cond kept.dirty (inode_bytes g now.uuid agino kept.inode) buffer) group
-        ∙ ap (λ (u : List ℕ). cond kept.dirty (inode_bytes cache.group u agino kept.inode) buffer) uuid
+        ap (λ (g : ℕ). cond kept.dirty (incore_encoding g now.uuid agino kept.inode) buffer) group
+        ∙ ap (λ (u : List ℕ). cond kept.dirty (incore_encoding cache.group u agino kept.inode) buffer) uuid
 
 -- places of a cluster are apart
 apart_members : (cluster k place : ℕ) → k ≢ place → member cluster k ≢ member cluster place
@@ -98,7 +98,7 @@ pub flushing_more : (cluster : ℕ) (cache : Cache) (old : List Sector) (now nex
     → place < length into → IsFlushedAt (member cluster place) now next → sector.bytes ≡ flushed_bytes now (member cluster place) (get_or into place e).bytes
     → Flushing cluster cache old next (set into place sector) (place + 1)
 flushing_more cluster cache old now next into place sector e so_far room flushed buffer =
-    let not_yet : inode_at now (member cluster place) ≡ inode_at cache (member cluster place) =
+    let not_yet : incore_at now (member cluster place) ≡ incore_at cache (member cluster place) =
     so_far.outside (member cluster place) (λ k below. apart_members cluster place k (λ same. absurd (omega arith))) in
     record {
       done = λ k d below. elim (cases_eq k place) [
@@ -110,7 +110,7 @@ flushing_more cluster cache old now next into place sector e so_far room flushed
       ];
       ahead = λ k d above. get_or-set_other into place k sector d (λ same. absurd (omega arith)) ∙ so_far.ahead k d (omega arith);
       inside = λ k below. elim (cases_eq k place) [
-        | inl here ↦ subst (λ (n : ℕ). inode_at next (member cluster n) ≡ option_map cleaned (inode_at cache (member cluster n))) (sym here) (flushed.here ∙ ap (option_map cleaned) not_yet)
+        | inl here ↦ subst (λ (n : ℕ). incore_at next (member cluster n) ≡ option_map cleaned (incore_at cache (member cluster n))) (sym here) (flushed.here ∙ ap (option_map cleaned) not_yet)
         | inr other ↦ flushed.elsewhere (member cluster k) (apart_members cluster k place other) ∙ so_far.inside k (omega (arith, other))
       ];
       outside = λ agino apart. flushed.elsewhere agino (apart place (omega arith)) ∙ so_far.outside agino (λ k below. apart k (omega arith));
@@ -124,7 +124,7 @@ pub flushed_all : (cluster : ℕ) (cache : Cache) (old : List Sector) (now : Cac
 flushed_all cluster cache old now into place done all = record {
   inside = λ agino of.
       let e : member cluster (agino % 32) ≡ agino = omega arith in
-      subst (λ (n : ℕ). inode_at now n ≡ option_map cleaned (inode_at cache n)) e (done.inside (agino % 32) (omega arith));
+      subst (λ (n : ℕ). incore_at now n ≡ option_map cleaned (incore_at cache n)) e (done.inside (agino % 32) (omega arith));
   outside = λ agino other. done.outside agino (λ k below e. other (omega arith));
   group = done.group;
   uuid = done.uuid;
@@ -133,12 +133,12 @@ flushed_all cluster cache old now into place done all = record {
 
 -- buffers that encoded what was clean are the sectors of the rows
 pub flushed_rows : (cache : Cache) (agino : ℕ) (buffer : List ℕ) → (IsClean cache agino → buffer ≡ row_bytes cache agino buffer) → flushed_bytes cache agino buffer ≡ row_bytes cache agino buffer
-flushed_rows cache agino buffer encoded = by_case (inode_at cache agino) encoded
+flushed_rows cache agino buffer encoded = by_case (incore_at cache agino) encoded
   where
     one : (b : Bool) (new old : List ℕ) → (b ≡ false → old ≡ new) → cond b new old ≡ new
     one true new old same = refl
     one false new old same = same refl
 
-    by_case : (o : Option Kept) → (IsSomeAnd o (λ kept. kept.dirty ≡ false) → buffer ≡ row_of cache agino buffer o) → flushed_of cache agino buffer o ≡ row_of cache agino buffer o
+    by_case : (o : Option Kept) → (IsSomeAnd o (λ kept. kept.dirty ≡ false) → buffer ≡ cluster_sector cache agino buffer o) → flushed_of cache agino buffer o ≡ cluster_sector cache agino buffer o
     by_case None same = refl
-    by_case (Some kept) same = one kept.dirty (inode_bytes cache.group cache.uuid agino kept.inode) buffer same
+    by_case (Some kept) same = one kept.dirty (incore_encoding cache.group cache.uuid agino kept.inode) buffer same

@@ -11,8 +11,8 @@ use Rattle.std.specs.Option.{option_copied, option_copied_mut}
 use Rattle.std.specs.Ordering.{nat_cmp, eq_by_cmp}
 use Rattle.life_limits.specs.declared.TheConstants.{GROUP_NUMBERS}
 use Rattle.inode_cache.specs.declared.inode.Kept.{Kept}
-use Rattle.inode_cache.specs.Inodes.{IsInode}
-use Rattle.inode_cache.specs.Caches.{AreInodes, Cache, IsClean, inode_at, with_inode, without_inode}
+use Rattle.inode_cache.specs.Inodes.{IsIncore}
+use Rattle.inode_cache.specs.Caches.{AreInodes, Cache, IsClean, incore_at, with_incore, without_inode}
 
 found : (q : ℕ) (es : List (ℕ × Kept)) → find nat_cmp q es ≡ lookup (nat_eq q) es
 found q [] = refl
@@ -54,8 +54,8 @@ abbrev pub cache_of : ℕ → List ℕ → List (ℕ × Kept) → ℕ → Cache
 cache_of group uuid es spare = record { group = group; uuid = uuid; inodes = from_entries es; spare = spare }
 
 -- what the fields of a cache say of what contracts see
-pub seen : (cache : Cache) (group : ℕ) (uuid : List ℕ) (es : List (ℕ × Kept)) (spare : ℕ) → cache_of group uuid es spare ≡ cache → (q : ℕ) → inode_at cache q ≡ lookup (nat_eq q) es
-seen cache group uuid es spare is q = ap (λ (c : Cache). inode_at c q) (sym is) ∙ at_entries es q
+pub seen : (cache : Cache) (group : ℕ) (uuid : List ℕ) (es : List (ℕ × Kept)) (spare : ℕ) → cache_of group uuid es spare ≡ cache → (q : ℕ) → incore_at cache q ≡ lookup (nat_eq q) es
+seen cache group uuid es spare is q = ap (λ (c : Cache). incore_at c q) (sym is) ∙ at_entries es q
 
 -- a reference that was found is to the inode
 pub copied_some : (r : Option (Bor Kept)) (o : Option Kept) → option_copied r ≡ o → IsSome o → IsSome r
@@ -89,11 +89,11 @@ some_same : (x y : Kept) → Some x ≡ Some y → x ≡ y
 some_same x y e = cc
 
 pub inodes_put : (es fs : List (ℕ × Kept)) (k : ℕ) (v : Kept) → ((q : ℕ) → lookup (nat_eq q) fs ≡ cond (nat_eq k q) (Some v) (lookup (nat_eq q) es))
-    → IsInode v.inode → k < GROUP_NUMBERS → AreInodes es → AreInodes fs
+    → IsIncore v.inode → k < GROUP_NUMBERS → AreInodes es → AreInodes fs
 inodes_put es fs k v same is small are agino kept at = elim (cases_eq k agino) [
   | inl here ↦
       let put : Some v ≡ Some kept = sym (cond-true (nat_eq k agino) (Some v) (lookup (nat_eq agino) es) (eq-eqb k agino here)) ∙ sym (same agino) ∙ at in
-      (subst (λ (one : Kept). IsInode one.inode) (some_same v kept put) is, subst (λ (n : ℕ). n < GROUP_NUMBERS) here small)
+      (subst (λ (one : Kept). IsIncore one.inode) (some_same v kept put) is, subst (λ (n : ℕ). n < GROUP_NUMBERS) here small)
   | inr other ↦ are agino kept (sym (cond-false (nat_eq k agino) (Some v) (lookup (nat_eq agino) es) (ne_eqb k agino other)) ∙ sym (same agino) ∙ at)
 ]
 
@@ -122,16 +122,16 @@ same_cache cache group uuid es fs before after is same =
     ∙ ap (λ (c : Cache). let d : Cache = record c { spare = after } in d) is
 
 pub put_cache : (cache : Cache) (group : ℕ) (uuid : List ℕ) (es fs : List (ℕ × Kept)) (before after k : ℕ) (v : Kept) → cache_of group uuid es before ≡ cache
-    → ((q : ℕ) → lookup (nat_eq q) fs ≡ cond (nat_eq k q) (Some v) (lookup (nat_eq q) es)) → cache_of group uuid fs after ≡ with_inode k v cache after
+    → ((q : ℕ) → lookup (nat_eq q) fs ≡ cond (nat_eq k q) (Some v) (lookup (nat_eq q) es)) → cache_of group uuid fs after ≡ with_incore k v cache after
 put_cache cache group uuid es fs before after k v is same =
     ap (λ (m : FinMap nat_cmp Kept). let c : Cache = record { group = group; uuid = uuid; inodes = m; spare = after } in c) (inserted es fs k v same)
-    ∙ ap (λ (c : Cache). with_inode k v c after) is
+    ∙ ap (λ (c : Cache). with_incore k v c after) is
 
 -- the same where the room stays
 pub changed_cache : (cache : Cache) (group : ℕ) (uuid : List ℕ) (es fs : List (ℕ × Kept)) (before after k : ℕ) (v : Kept) → cache_of group uuid es before ≡ cache → after ≡ before
-    → ((q : ℕ) → lookup (nat_eq q) fs ≡ cond (nat_eq k q) (Some v) (lookup (nat_eq q) es)) → cache_of group uuid fs after ≡ with_inode k v cache cache.spare
+    → ((q : ℕ) → lookup (nat_eq q) fs ≡ cond (nat_eq k q) (Some v) (lookup (nat_eq q) es)) → cache_of group uuid fs after ≡ with_incore k v cache cache.spare
 changed_cache cache group uuid es fs before after k v is room same =
-    put_cache cache group uuid es fs before after k v is same ∙ ap (with_inode k v cache) (room ∙ ap (λ (c : Cache). c.spare) is)
+    put_cache cache group uuid es fs before after k v is same ∙ ap (with_incore k v cache) (room ∙ ap (λ (c : Cache). c.spare) is)
 
 pub away_cache : (cache : Cache) (group : ℕ) (uuid : List ℕ) (es fs : List (ℕ × Kept)) (before after k : ℕ) → cache_of group uuid es before ≡ cache
     → ((q : ℕ) → lookup (nat_eq q) fs ≡ cond (nat_eq k q) None (lookup (nat_eq q) es)) → cache_of group uuid fs after ≡ without_inode k cache after
@@ -146,8 +146,8 @@ not_dirty true t = absurd (false≢true t)
 is_not_dirty : (b : Bool) → b ≡ false → IsTrue (not b)
 is_not_dirty b e = subst (λ (x : Bool). IsTrue (not x)) (sym e) refl
 
-pub clean_told : (cache : Cache) (agino : ℕ) (k : Kept) → inode_at cache agino ≡ Some k → (IsTrue (not k.dirty) → IsClean cache agino) × (IsClean cache agino → IsTrue (not k.dirty))
+pub clean_told : (cache : Cache) (agino : ℕ) (k : Kept) → incore_at cache agino ≡ Some k → (IsTrue (not k.dirty) → IsClean cache agino) × (IsClean cache agino → IsTrue (not k.dirty))
 clean_told cache agino k is = (
-  λ t. and_holds (inode_at cache agino) k (λ (kept : Kept). kept.dirty ≡ false) is (not_dirty k.dirty t),
+  λ t. and_holds (incore_at cache agino) k (λ (kept : Kept). kept.dirty ≡ false) is (not_dirty k.dirty t),
   λ clean. is_not_dirty k.dirty (subst (λ (o : Option Kept). IsSomeAnd o (λ (kept : Kept). kept.dirty ≡ false)) is clean),
 )

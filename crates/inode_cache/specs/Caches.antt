@@ -9,7 +9,7 @@ use Rattle.life_limits.specs.declared.TheConstants.{GROUP_NUMBERS}
 use Rattle.inode_cache.specs.declared.inode.Incore.{Incore}
 use Rattle.inode_cache.specs.declared.inode.Kept.{Kept}
 use Rattle.inode_cache.specs.Codes.{kept_code}
-use Rattle.inode_cache.specs.Inodes.{IsInode}
+use Rattle.inode_cache.specs.Inodes.{IsIncore}
 
 -- The group, the uuid of the image, by its number in the group each inode that is in core, and for how many more there is room.
 pub record Cache : Type 0 where
@@ -28,12 +28,12 @@ cache_code =
     (λ _. refl)
 
 -- the inode of a number, where it is in core
-abbrev pub inode_at : Cache → ℕ → Option Kept
-inode_at cache agino = map.get cache.inodes agino
+abbrev pub incore_at : Cache → ℕ → Option Kept
+incore_at cache agino = map.get cache.inodes agino
 
 -- it is in core, and nothing was changed since its buffer was written
 abbrev pub IsClean : Cache → ℕ → Type 0
-IsClean cache agino = IsSomeAnd (inode_at cache agino) (λ kept. kept.dirty ≡ false)
+IsClean cache agino = IsSomeAnd (incore_at cache agino) (λ kept. kept.dirty ≡ false)
 
 -- a clean inode and a dirty one
 abbrev pub clean : Incore → Kept
@@ -43,12 +43,12 @@ abbrev pub dirty : Incore → Kept
 dirty inode = record { inode = inode; dirty = true }
 
 -- the cache with an inode put in its place, or taken out; its room is what it then is
-abbrev pub with_inode : ℕ → Kept → Cache → ℕ → Cache
-with_inode agino kept cache spare = record { group = cache.group; uuid = cache.uuid; inodes = map.insert cache.inodes agino kept; spare = spare }
+abbrev pub with_incore : ℕ → Kept → Cache → ℕ → Cache
+with_incore agino kept cache spare = record { group = cache.group; uuid = cache.uuid; inodes = map.insert cache.inodes agino kept; spare = spare }
 
 abbrev pub without_inode : ℕ → Cache → ℕ → Cache
 without_inode agino cache spare = record { group = cache.group; uuid = cache.uuid; inodes = map.remove cache.inodes agino; spare = spare }
 
 -- What is in core are inodes of the group that sectors can encode.
 abbrev pub AreInodes : List (ℕ × Kept) → Type 0
-AreInodes entries = (agino : ℕ) (kept : Kept) → lookup (nat_eq agino) entries ≡ Some kept → IsInode kept.inode × (agino < GROUP_NUMBERS)
+AreInodes entries = (agino : ℕ) (kept : Kept) → lookup (nat_eq agino) entries ≡ Some kept → IsIncore kept.inode × (agino < GROUP_NUMBERS)

@@ -3,5 +3,5 @@ use Rattle.std.specs.Prelude.{◌/◌, ◌%◌, ◌==◌, ℕ, Bool, List, slice
 use Rattle.std.specs.Int.{bit_at}
 
 -- whether a number is in the set
-abbrev pub has : List ℕ → ℕ → Bool
-has words n = bit_at (slice_index words (n / 64)) (n % 64) == 1
+abbrev pub has_number : List ℕ → ℕ → Bool
+has_number words n = bit_at (slice_index words (n / 64)) (n % 64) == 1

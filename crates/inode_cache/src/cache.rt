@@ -5,9 +5,9 @@ ghost use Rattle.std.specs.FinMap as map;
 ghost use Rattle.life_bytes.specs.declared.sector.Sector.{Sector};
 ghost use Rattle.life_limits.specs.declared.TheConstants.{GROUP_NUMBERS, MAX_GROUPS};
 ghost use Rattle.inode_cache.specs.declared.inode.TheConstants.{CLUSTER_INODES};
-ghost use Rattle.inode_cache.specs.Inodes.{IsInode};
-ghost use Rattle.inode_cache.specs.Caches.{IsClean, clean, dirty, inode_at, with_inode, without_inode};
-ghost use Rattle.inode_cache.specs.Flush.{AreFlushed, AreRows, AreUpToDate, IsFlushed, IsFlushedAt, flushed_bytes};
+ghost use Rattle.inode_cache.specs.Inodes.{IsIncore};
+ghost use Rattle.inode_cache.specs.Caches.{IsClean, clean, dirty, incore_at, with_incore, without_inode};
+ghost use Rattle.inode_cache.specs.Flush.{AreFlushed, AreClusterSectors, AreUpToDate, IsFlushed, IsFlushedAt, flushed_bytes};
 
 use crate::inode::{CLUSTER_INODES, Incore, Kept, write_inode};
 use inode_core::Core;
@@ -72,9 +72,9 @@ impl InodeCache {
     /// Puts an inode in that its buffer encodes. It takes no memory where there is room for one.
     pub fn install(&mut self, agino: u32, core: Core, blocks: Blocks) -> Result<(), NoMemory>
         requires agino_small { agino < GROUP_NUMBERS }
-        requires absent { inode_at self.old agino ≡ None }
-        requires inode { IsInode (record { core = core; blocks = blocks }) }
-        ensures installed { OnOk result (self.new ≡ with_inode agino (clean (record { core = core; blocks = blocks })) self.old self.new.spare) }
+        requires absent { incore_at self.old agino ≡ None }
+        requires inode { IsIncore (record { core = core; blocks = blocks }) }
+        ensures installed { OnOk result (self.new ≡ with_incore agino (clean (record { core = core; blocks = blocks })) self.old self.new.spare) }
         ensures same { OnErr result (self.new ≡ record self.old { spare = self.new.spare }) }
         ensures succeeds { 1 ≤ self.old.spare → IsOk result }
         ensures spare { self.old.spare ≤ self.new.spare + 1 }
@@ -89,23 +89,23 @@ impl InodeCache {
 
     /// Whether the inode is in core.
     pub fn has(&self, agino: u32) -> bool
-        ensures { result ≡ is_some (inode_at self.now agino) }
+        ensures { result ≡ is_some (incore_at self.now agino) }
     {
         self.inodes.contains_key(&agino)
     }
 
     /// The inode, which has to be in core.
     pub fn get(&self, agino: u32) -> &Incore
-        requires { IsSome (inode_at self.now agino) }
-        ensures found { IsSomeAnd (inode_at self.now agino) (λ kept. kept.inode ≡ result.now) }
-        ensures inode { IsInode result.now }
+        requires { IsSome (incore_at self.now agino) }
+        ensures found { IsSomeAnd (incore_at self.now agino) (λ kept. kept.inode ≡ result.now) }
+        ensures inode { IsIncore result.now }
     {
         &self.inodes.get(&agino).unwrap().inode
     }
 
     /// Whether the inode, which has to be in core, is as its buffer encodes it.
     pub fn clean(&self, agino: u32) -> bool
-        requires { IsSome (inode_at self.now agino) }
+        requires { IsSome (incore_at self.now agino) }
         ensures { IsTrue result ↔ IsClean self.now agino }
     {
         !self.inodes.get(&agino).unwrap().dirty
@@ -114,9 +114,9 @@ impl InodeCache {
     /// Puts another core and other blocks in the place of those of an inode in core, which is dirty from then on. It takes no
     /// memory.
     pub fn change(&mut self, agino: u32, core: Core, blocks: Blocks)
-        requires in_core { IsSome (inode_at self.old agino) }
-        requires inode { IsInode (record { core = core; blocks = blocks }) }
-        ensures { self.new ≡ with_inode agino (dirty (record { core = core; blocks = blocks })) self.old self.old.spare }
+        requires in_core { IsSome (incore_at self.old agino) }
+        requires inode { IsIncore (record { core = core; blocks = blocks }) }
+        ensures { self.new ≡ with_incore agino (dirty (record { core = core; blocks = blocks })) self.old self.old.spare }
     {
         let kept = Kept {
             inode: Incore { core, blocks },
@@ -148,7 +148,7 @@ impl InodeCache {
         ensures buffers { AreFlushed self.old cluster into.old into.new }
         ensures inodes { IsFlushed cluster self.old self.new }
         // Where the buffers encoded what was clean, they are the sectors of the cluster's rows.
-        ensures rows { AreUpToDate self.old cluster into.old → AreRows self.old cluster into.old into.new }
+        ensures rows { AreUpToDate self.old cluster into.old → AreClusterSectors self.old cluster into.old into.new }
     {
         for place in 0..CLUSTER_INODES {
             self.flush_inode(cluster * CLUSTER_INODES + place, &mut into[place as usize]);

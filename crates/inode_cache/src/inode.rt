@@ -2,7 +2,7 @@
 
 ghost use Rattle.std.specs.Prelude.{◌≡◌, ◌<◌};
 ghost use Rattle.life_limits.specs.declared.TheConstants.{GROUP_NUMBERS, MAX_GROUPS};
-ghost use Rattle.inode_cache.specs.Inodes.{IsInode, inode_bytes};
+ghost use Rattle.inode_cache.specs.Inodes.{IsIncore, incore_encoding};
 
 use extent_fork::{Extent, fill_runs, write_fork};
 use geometry::number;
@@ -33,10 +33,10 @@ pub struct Kept {
 /// Writes the whole sector of an inode: its core, and the fork of the longest runs of its blocks. `agino` is its number in
 /// the group. It takes no memory.
 pub fn write_inode(inode: &Incore, group: u32, agino: u32, uuid: &[u8; 16], into: &mut Sector)
-    requires inode { IsInode inode.now }
+    requires inode { IsIncore inode.now }
     requires group_small { group < MAX_GROUPS }
     requires agino_small { agino < GROUP_NUMBERS }
-    ensures { into.new.bytes ≡ inode_bytes group uuid.now agino inode.now }
+    ensures { into.new.bytes ≡ incore_encoding group uuid.now agino inode.now }
 {
     let mut runs = [Extent { start: 0, count: 0 }; MAX_EXTENTS as usize];
     let count = fill_runs(inode.blocks.as_slice(), &mut runs).unwrap();

@@ -3,7 +3,7 @@
 ghost use Rattle.std.specs.Prelude.{◌≡◌, ◌≢◌, ◌≤◌, ◌<◌, ◌+◌, ◌*◌, ◌/◌, ℕ, true, false, length, IfNone, IfOk, IfSome};
 ghost use Rattle.std.specs.Int.{bit_at};
 ghost use Rattle.life_limits.specs.declared.TheConstants.{GROUP_NUMBERS};
-ghost use Rattle.inode_cache.specs.Numbers.{has};
+ghost use Rattle.inode_cache.specs.Numbers.{has_number};
 
 use life_limits::GROUP_NUMBERS;
 use life_ports::NoMemory;
@@ -49,7 +49,7 @@ fn bit_from(word: u64, place: u32) -> Option<u32>
 impl NumberSet {
     /// The empty set.
     pub fn new(alloc: Global) -> Result<NumberSet, NoMemory>
-        ensures { IfOk result (λ set. (n : ℕ) → has set n ≡ false) }
+        ensures { IfOk result (λ set. (n : ℕ) → has_number set n ≡ false) }
     {
         let words = vec![in alloc; 0; WORDS as usize]?;
         Ok(NumberSet { words })
@@ -57,7 +57,7 @@ impl NumberSet {
 
     pub fn contains(&self, number: u32) -> bool
         requires { number < GROUP_NUMBERS }
-        ensures { result ≡ has self.now number }
+        ensures { result ≡ has_number self.now number }
     {
         (self.words[(number / WORD_BITS) as usize] >> (number % WORD_BITS)) & 1 == 1
     }
@@ -65,8 +65,8 @@ impl NumberSet {
     /// Puts a number in. It takes no memory.
     pub fn insert(&mut self, number: u32)
         requires { number < GROUP_NUMBERS }
-        ensures here { has self.new number ≡ true }
-        ensures others { (n : ℕ) → n ≢ number → has self.new n ≡ has self.old n }
+        ensures here { has_number self.new number ≡ true }
+        ensures others { (n : ℕ) → n ≢ number → has_number self.new n ≡ has_number self.old n }
     {
         self.words[(number / WORD_BITS) as usize] |= 1 << (number % WORD_BITS);
     }
@@ -74,17 +74,17 @@ impl NumberSet {
     /// Takes a number out.
     pub fn remove(&mut self, number: u32)
         requires { number < GROUP_NUMBERS }
-        ensures here { has self.new number ≡ false }
-        ensures others { (n : ℕ) → n ≢ number → has self.new n ≡ has self.old n }
+        ensures here { has_number self.new number ≡ false }
+        ensures others { (n : ℕ) → n ≢ number → has_number self.new n ≡ has_number self.old n }
     {
         self.words[(number / WORD_BITS) as usize] &= !(1 << (number % WORD_BITS));
     }
 
     /// The least number of the set that is not below `from`. It looks at the words from there on.
     pub fn first_from(&self, from: u32) -> Option<u32>
-        ensures found { IfSome result (λ n. (from ≤ n) × (has self.now n ≡ true)) }
-        ensures least { IfSome result (λ n. (k : ℕ) → from ≤ k → k < n → has self.now k ≡ false) }
-        ensures none { IfNone result ((k : ℕ) → from ≤ k → has self.now k ≡ false) }
+        ensures found { IfSome result (λ n. (from ≤ n) × (has_number self.now n ≡ true)) }
+        ensures least { IfSome result (λ n. (k : ℕ) → from ≤ k → k < n → has_number self.now k ≡ false) }
+        ensures none { IfNone result ((k : ℕ) → from ≤ k → has_number self.now k ≡ false) }
     {
         let mut place = from % WORD_BITS;
         for index in from / WORD_BITS..WORDS {

@@ -1,5 +1,5 @@
 ghost use Rattle.std.specs.Prelude.{IfOk};
-ghost use Rattle.inode_cache.specs.Inodes.{IsInode};
+ghost use Rattle.inode_cache.specs.Inodes.{IsIncore};
 
 use super::*;
 use inode_core::{Core, read_core};
@@ -30,7 +30,7 @@ const THREE: Core = Core {
 };
 
 fn empty_file(alloc: Global) -> Incore
-    ensures { IsInode result }
+    ensures { IsIncore result }
 {
     Incore {
         core: EMPTY,
@@ -39,7 +39,7 @@ fn empty_file(alloc: Global) -> Incore
 }
 
 fn three_blocks(alloc: Global) -> Result<Incore, NoMemory>
-    ensures { IfOk result IsInode }
+    ensures { IfOk result IsIncore }
 {
     let blocks = Vec::from_slice(alloc, &[32, 33, 34])?;
     Ok(Incore {

@@ -1,17 +1,17 @@
--- The fields of a sector that encodes a core are the core's.
+-- The core_fields of a sector that encodes a core are the core's.
 use Rattle.std.proofs.Common.{◌≡◌, ◌^◌, ◌<◌, ℕ, Bool, true, false, eqb, List, [], ◌∷◌, ◌++◌, length, take, drop, refl, sym, ap, ◌∙◌, arith, lit≤, lit<}
 use Rattle.std.proofs.lemmas.List.{take_all, length-drop}
 use Rattle.life_bytes.specs.Fields.{field, with_field, with_piece}
-use Rattle.life_bytes.specs.Pieces.{Row, placed, blank, sealed, piece}
-use Rattle.life_bytes.specs.TableLaws.{AreRows, sealed_row, sealed_number, length-sealed_table}
+use Rattle.life_bytes.specs.Pieces.{Field, placed, blank, sealed, piece}
+use Rattle.life_bytes.specs.TableLaws.{AreFields, sealed_row, sealed_number, length-sealed_table}
 use Rattle.inode_core.specs.declared.shape.Core.{Core}
-use Rattle.inode_core.specs.Cores.{IsCore, mode_of, fork_of, no_fork, fields, encoding, Encodes}
+use Rattle.inode_core.specs.Cores.{IsCore, mode_of, fork_of, no_fork, core_fields, core_encoding, EncodesCore}
 use Rattle.inode_core.specs.Reading.{core_in, CoresAreRead}
 
-abbrev table : Core → ℕ → List ℕ → List ℕ → List Row
-table core ino uuid fork = fields core ino uuid ++ (piece 176 336 fork ∷ [])
+abbrev table : Core → ℕ → List ℕ → List ℕ → List Field
+table core ino uuid fork = core_fields core ino uuid ++ (piece 176 336 fork ∷ [])
 
-rows : (core : Core) (ino : ℕ) (uuid fork : List ℕ) → length uuid ≡ 16 → length fork ≡ 336 → AreRows 512 (table core ino uuid fork)
+rows : (core : Core) (ino : ℕ) (uuid fork : List ℕ) → length uuid ≡ 16 → length fork ≡ 336 → AreFields 512 (table core ino uuid fork)
 rows core ino uuid fork wide long = (
   (lit≤ tt, refl),
   (
@@ -54,7 +54,7 @@ live_from_mode : (b : Bool) → eqb (mode_of b) 0x81A4 ≡ b
 live_from_mode true = refl
 live_from_mode false = refl
 
--- what the fields of an encoded core say
+-- what the core_fields of an encoded core say
 pub record Says (core : Core) (bytes : List ℕ) : Type 0 where
   pub mode : eqb (field 2 2 bytes) 0x81A4 ≡ core.live
   pub links : field 4 16 bytes ≡ core.links
@@ -68,8 +68,8 @@ mode_small : (b : Bool) → mode_of b < 256 ^ 2
 mode_small true = lit< tt
 mode_small false = lit< tt
 
-pub says : (core : Core) (ino : ℕ) (uuid fork : List ℕ) → IsCore core → length uuid ≡ 16 → length fork ≡ 336 → Says core (encoding core ino uuid fork)
-unfolding encoding
+pub says : (core : Core) (ino : ℕ) (uuid fork : List ℕ) → IsCore core → length uuid ≡ 16 → length fork ≡ 336 → Says core (core_encoding core ino uuid fork)
+unfolding core_encoding
 says core ino uuid fork is wide long =
     let t = table core ino uuid fork in
     let ok = rows core ino uuid fork wide long in
@@ -84,8 +84,8 @@ says core ino uuid fork is wide long =
       next = sealed_number 100 t 9 96 4 core.next ok (lit≤ tt) refl refl bound.next;
     }
 
-pub fork_of-encoding : (core : Core) (ino : ℕ) (uuid fork : List ℕ) → length uuid ≡ 16 → length fork ≡ 336 → fork_of (encoding core ino uuid fork) ≡ fork
-unfolding encoding
+pub fork_of-encoding : (core : Core) (ino : ℕ) (uuid fork : List ℕ) → length uuid ≡ 16 → length fork ≡ 336 → fork_of (core_encoding core ino uuid fork) ≡ fork
+unfolding core_encoding
 fork_of-encoding core ino uuid fork wide long =
     let t = table core ino uuid fork in
     let ok = rows core ino uuid fork wide long in
@@ -97,10 +97,10 @@ pub whole_fork : (bytes : List ℕ) → length bytes ≡ 512 → take 336 (drop 
 whole_fork bytes size = take_all 336 (drop 176 bytes) (omega (arith, length-drop 176 bytes))
 
 -- one core before one fork is one sector
-pub one_sector : (a b : List ℕ) (ino : ℕ) (uuid : List ℕ) (core : Core) → Encodes a ino uuid core → Encodes b ino uuid core → fork_of a ≡ fork_of b → a ≡ b
-one_sector a b ino uuid core left right same = left.sector ∙ ap (encoding core ino uuid) same ∙ sym right.sector
+pub one_sector : (a b : List ℕ) (ino : ℕ) (uuid : List ℕ) (core : Core) → EncodesCore a ino uuid core → EncodesCore b ino uuid core → fork_of a ≡ fork_of b → a ≡ b
+one_sector a b ino uuid core left right same = left.sector ∙ ap (core_encoding core ino uuid) same ∙ sym right.sector
 
--- the fields put in one after the other
+-- the core_fields put in one after the other
 pub put_in_turn : (core : Core) (ino : ℕ) (uuid z b0 b1 b2 b3 b4 b5 b6 b7 b8 b9 b10 b11 : List ℕ) → length uuid ≡ 16 → z ≡ blank
     → b0 ≡ with_field 2 0 0x494E z
     → b1 ≡ with_field 2 2 (mode_of core.live) b0
@@ -113,30 +113,30 @@ pub put_in_turn : (core : Core) (ino : ℕ) (uuid z b0 b1 b2 b3 b4 b5 b6 b7 b8 b
     → b8 ≡ with_field 4 92 core.generation b7
     → b9 ≡ with_field 4 96 core.next b8
     → b10 ≡ with_field 8 152 ino b9
-    → b11 ≡ with_piece (length uuid) 160 uuid b10 → b11 ≡ placed (fields core ino uuid) blank
+    → b11 ≡ with_piece (length uuid) 160 uuid b10 → b11 ≡ placed (core_fields core ino uuid) blank
 unfolding placed
 put_in_turn core ino uuid z b0 b1 b2 b3 b4 b5 b6 b7 b8 b9 b10 b11 wide zero e0 e1 e2 e3 e4 e5 e6 e7 e8 e9 e10 e11 =
     rw (e11, e10, e9, e8, e7, e6, e5, e4, e3, e2, e1, e0, zero, wide) refl
 
 -- what `write_core` leaves
 pub record IsWritten (core : Core) (ino : ℕ) (uuid old new : List ℕ) : Type 0 where
-  pub encoded : Encodes new ino uuid core
+  pub encoded : EncodesCore new ino uuid core
   pub same_fork : fork_of new ≡ fork_of old
 
 pub is_written : (core : Core) (ino : ℕ) (uuid old plain part forked new : List ℕ) → length uuid ≡ 16 → length old ≡ 512 → IsCore core → (core.live ≡ false → fork_of old ≡ no_fork)
-    → plain ≡ placed (fields core ino uuid) blank → part ≡ fork_of old → forked ≡ with_piece (length part) 176 part plain → new ≡ sealed 100 forked → IsWritten core ino uuid old new
-unfolding encoding placed
+    → plain ≡ placed (core_fields core ino uuid) blank → part ≡ fork_of old → forked ≡ with_piece (length part) 176 part plain → new ≡ sealed 100 forked → IsWritten core ino uuid old new
+unfolding core_encoding placed
 is_written core ino uuid old plain part forked new wide size is free p q r s =
     let long : length (fork_of old) ≡ 336 = omega (arith, length-drop 176 old) in
-    let e : new ≡ encoding core ino uuid (fork_of old) = is_encoding core ino uuid (fork_of old) plain part forked new long p q r s in
+    let e : new ≡ core_encoding core ino uuid (fork_of old) = is_encoding core ino uuid (fork_of old) plain part forked new long p q r s in
     let same : fork_of new ≡ fork_of old = ap fork_of e ∙ fork_of-encoding core ino uuid (fork_of old) wide long in
     record {
-      encoded = record { allowed = is; fork = λ f. same ∙ free f; sector = e ∙ ap (encoding core ino uuid) (sym same) };
+      encoded = record { allowed = is; fork = λ f. same ∙ free f; sector = e ∙ ap (core_encoding core ino uuid) (sym same) };
       same_fork = same;
     }
   where
-    is_encoding : (core : Core) (ino : ℕ) (uuid fork plain part forked new : List ℕ) → length fork ≡ 336 → plain ≡ placed (fields core ino uuid) blank → part ≡ fork
-        → forked ≡ with_piece (length part) 176 part plain → new ≡ sealed 100 forked → new ≡ encoding core ino uuid fork
+    is_encoding : (core : Core) (ino : ℕ) (uuid fork plain part forked new : List ℕ) → length fork ≡ 336 → plain ≡ placed (core_fields core ino uuid) blank → part ≡ fork
+        → forked ≡ with_piece (length part) 176 part plain → new ≡ sealed 100 forked → new ≡ core_encoding core ino uuid fork
     is_encoding core ino uuid fork plain part forked new long p q r s = rw (s, r, q, p, long) refl
 
 -- ---- reading
@@ -155,10 +155,10 @@ same a b live links size blocks extents generation next =
     ∙ ap (λ (x : ℕ). made b.live b.links b.size b.blocks b.extents x a.next) generation
     ∙ ap (λ (x : ℕ). made b.live b.links b.size b.blocks b.extents b.generation x) next
 
--- what the fields of these bytes give is what the bytes encode
+-- what the core_fields of these bytes give is what the bytes encode
 pub is_read : (read core : Core) (ino : ℕ) (bytes uuid : List ℕ) → length uuid ≡ 16 → length bytes ≡ 512 → read.live ≡ eqb (field 2 2 bytes) 0x81A4 → read.links ≡ field 4 16 bytes
     → read.size ≡ field 8 56 bytes → read.blocks ≡ field 8 64 bytes → read.extents ≡ field 4 76 bytes → read.generation ≡ field 4 92 bytes → read.next ≡ field 4 96 bytes
-    → Encodes bytes ino uuid core → read ≡ core
+    → EncodesCore bytes ino uuid core → read ≡ core
 is_read read core ino bytes uuid wide size live links bytes_size blocks extents generation next s =
     let long : length (fork_of bytes) ≡ 336 = omega (arith, length-drop 176 bytes) in
     let say = says core ino uuid (fork_of bytes) s.allowed wide long in
@@ -168,15 +168,15 @@ is_read read core ino bytes uuid wide size live links bytes_size blocks extents 
 
 -- the fork that the core has to stand before is the sector's, where the sector encodes it
 pub same_fork : (core : Core) (ino : ℕ) (uuid bytes given : List ℕ) → (core.live ≡ true → fork_of given ≡ fork_of bytes) → (core.live ≡ false → fork_of given ≡ no_fork)
-    → Encodes bytes ino uuid core → fork_of given ≡ fork_of bytes
+    → EncodesCore bytes ino uuid core → fork_of given ≡ fork_of bytes
 same_fork core ino uuid bytes given live free s = by core.live refl
   where
     by : (b : Bool) → core.live ≡ b → fork_of given ≡ fork_of bytes
     by true e = live e
     by false e = free e ∙ sym (s.fork e)
 
-pub length-encoding : (core : Core) (ino : ℕ) (uuid fork : List ℕ) → length uuid ≡ 16 → length fork ≡ 336 → length (encoding core ino uuid fork) ≡ 512
-unfolding encoding
+pub length-encoding : (core : Core) (ino : ℕ) (uuid fork : List ℕ) → length uuid ≡ 16 → length fork ≡ 336 → length (core_encoding core ino uuid fork) ≡ 512
+unfolding core_encoding
 length-encoding core ino uuid fork wide long = length-sealed_table 100 (table core ino uuid fork) (rows core ino uuid fork wide long) (lit≤ tt)
 
 pub cores_are_read : CoresAreRead
@@ -184,7 +184,7 @@ cores_are_read = record {
   read = λ bytes uuid ino core size wide s. is_read (core_in bytes) core ino bytes uuid wide size refl refl refl refl refl refl refl s;
   encoded = λ core ino uuid fork can.
       let same = fork_of-encoding core ino uuid fork can.wide can.long in
-      record { allowed = can.allowed; fork = λ f. same ∙ can.free f; sector = ap (encoding core ino uuid) (sym same) };
+      record { allowed = can.allowed; fork = λ f. same ∙ can.free f; sector = ap (core_encoding core ino uuid) (sym same) };
   same_fork = λ core ino uuid fork can. fork_of-encoding core ino uuid fork can.wide can.long;
   long = λ core ino uuid fork can. length-encoding core ino uuid fork can.wide can.long;
 }

@@ -1,10 +1,10 @@
 -- The inode core as the front of a sector.
 use Rattle.std.specs.Prelude.{◌≡◌, ◌<◌, ◌≤◌, ◌*◌, ◌^◌, ℕ, List, [], ◌∷◌, ◌++◌, Bool, true, false, drop, if◌then◌else◌}
 use Rattle.life_limits.specs.declared.TheConstants.{BLOCK_BYTES, MAX_LINKS, MAX_EXTENTS, MAX_GENERATION, NO_INODE}
-use Rattle.life_bytes.specs.Pieces.{Row, number, piece, placed, zeros, blank, sealed}
+use Rattle.life_bytes.specs.Pieces.{Field, number, piece, placed, zeros, blank, sealed}
 use Rattle.inode_core.specs.declared.shape.Core.{Core}
 
--- the fields of an inode in use
+-- the core_fields of an inode in use
 pub record IsLive (core : Core) : Type 0 where
   pub links : core.links ≤ MAX_LINKS
   pub size : core.size ≡ core.blocks * BLOCK_BYTES
@@ -13,7 +13,7 @@ pub record IsLive (core : Core) : Type 0 where
   pub generation : (1 ≤ core.generation) × (core.generation < MAX_GENERATION)
   pub next : core.next ≤ NO_INODE
 
--- the fields of a free inode
+-- the core_fields of a free inode
 pub record IsFree (core : Core) : Type 0 where
   pub links : core.links ≡ 0
   pub size : core.size ≡ 0
@@ -22,7 +22,7 @@ pub record IsFree (core : Core) : Type 0 where
   pub generation : (1 ≤ core.generation) × (core.generation ≤ MAX_GENERATION)
   pub next : core.next ≡ NO_INODE
 
--- the fields that a core may have
+-- the core_fields that a core may have
 pub record IsCore (core : Core) : Type 0 where
   pub live : core.live ≡ true → IsLive core
   pub free : core.live ≡ false → IsFree core
@@ -38,8 +38,8 @@ fork_of bytes = drop 176 bytes
 abbrev pub no_fork : List ℕ
 no_fork = zeros 336
 
-abbrev pub fields : Core → ℕ → List ℕ → List Row
-fields core ino uuid =
+abbrev pub core_fields : Core → ℕ → List ℕ → List Field
+core_fields core ino uuid =
     number 0 2 0x494E
     ∷ number 2 2 (mode_of core.live)
     ∷ number 4 1 3
@@ -55,11 +55,11 @@ fields core ino uuid =
     ∷ []
 
 -- the sector that encodes a core before a fork, with the checksum at byte 100
-unfoldable pub encoding : Core → ℕ → List ℕ → List ℕ → List ℕ
-encoding core ino uuid fork = sealed 100 (placed (fields core ino uuid ++ (piece 176 336 fork ∷ [])) blank)
+unfoldable pub core_encoding : Core → ℕ → List ℕ → List ℕ → List ℕ
+core_encoding core ino uuid fork = sealed 100 (placed (core_fields core ino uuid ++ (piece 176 336 fork ∷ [])) blank)
 
 -- the sector encodes the core, under this number and uuid
-pub record Encodes (bytes : List ℕ) (ino : ℕ) (uuid : List ℕ) (core : Core) : Type 0 where
+pub record EncodesCore (bytes : List ℕ) (ino : ℕ) (uuid : List ℕ) (core : Core) : Type 0 where
   pub allowed : IsCore core
   pub fork : core.live ≡ false → fork_of bytes ≡ no_fork
-  pub sector : bytes ≡ encoding core ino uuid (fork_of bytes)
+  pub sector : bytes ≡ core_encoding core ino uuid (fork_of bytes)

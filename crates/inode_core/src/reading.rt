@@ -3,7 +3,7 @@
 ghost use Rattle.std.specs.Prelude.{◌≡◌, ◌==◌, ◌↔◌, IsTrue, IfSome, true, false, length};
 ghost use Rattle.life_bytes.specs.Fields.{field};
 ghost use Rattle.inode_core.specs.declared.shape.Core.{Core};
-ghost use Rattle.inode_core.specs.Cores.{IsCore, Encodes, fork_of, no_fork};
+ghost use Rattle.inode_core.specs.Cores.{IsCore, EncodesCore, fork_of, no_fork};
 
 use crate::shape::Core;
 use crate::writing::{LIVE_MODE, write_core};
@@ -63,7 +63,7 @@ fn fork_for(core: &Core, sector: &Sector) -> Sector
 
 /// Whether the sector encodes this core, byte by byte.
 fn is_encoded(core: &Core, sector: &Sector, number: u64, uuid: &[u8; 16]) -> bool
-    ensures { IsTrue result ↔ Encodes sector.now.bytes number uuid.now core.now }
+    ensures { IsTrue result ↔ EncodesCore sector.now.bytes number uuid.now core.now }
 {
     if !is_core(core) {
         return false;
@@ -76,8 +76,8 @@ fn is_encoded(core: &Core, sector: &Sector, number: u64, uuid: &[u8; 16]) -> boo
 /// Reads the core of the inode `number` of the image with this uuid. None where the sector is no
 /// encoding of one, by any of its bytes.
 pub fn read_core(sector: &Sector, number: u64, uuid: &[u8; 16]) -> Option<Core>
-    ensures found { IfSome result (Encodes sector.now.bytes number uuid.now) }
-    ensures only { (core : Core) → Encodes sector.now.bytes number uuid.now core → result ≡ Some core }
+    ensures found { IfSome result (EncodesCore sector.now.bytes number uuid.now) }
+    ensures only { (core : Core) → EncodesCore sector.now.bytes number uuid.now core → result ≡ Some core }
 {
     let core = fields_of(sector);
     if is_encoded(&core, sector, number, uuid) {

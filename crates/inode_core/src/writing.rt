@@ -2,7 +2,7 @@
 
 ghost use Rattle.std.specs.Prelude.{◌≡◌, false};
 ghost use Rattle.life_bytes.specs.Pieces.{placed, blank};
-ghost use Rattle.inode_core.specs.Cores.{IsCore, Encodes, fields, fork_of, mode_of, no_fork};
+ghost use Rattle.inode_core.specs.Cores.{IsCore, EncodesCore, core_fields, fork_of, mode_of, no_fork};
 
 use crate::shape::Core;
 use life_bytes::{Sector, put_bytes, put_crc, put_u8, put_u16, put_u32, put_u64};
@@ -23,7 +23,7 @@ fn mode_of(live: bool) -> u16
 
 /// A sector of zeros but for the core's fields.
 fn with_fields(core: &Core, number: u64, uuid: &[u8; 16]) -> Sector
-    ensures { result.bytes ≡ placed (fields core.now number uuid.now) blank }
+    ensures { result.bytes ≡ placed (core_fields core.now number uuid.now) blank }
 {
     let mut sector = Sector::zero();
     let bytes = &mut sector.bytes;
@@ -46,7 +46,7 @@ fn with_fields(core: &Core, number: u64, uuid: &[u8; 16]) -> Sector
 pub fn write_core(core: &Core, number: u64, uuid: &[u8; 16], into: &mut Sector)
     requires allowed { IsCore core.now }
     requires fork { core.now.live ≡ false → fork_of into.old.bytes ≡ no_fork }
-    ensures encoded { Encodes into.new.bytes number uuid.now core.now }
+    ensures encoded { EncodesCore into.new.bytes number uuid.now core.now }
     ensures same_fork { fork_of into.new.bytes ≡ fork_of into.old.bytes }
 {
     let mut new = with_fields(core, number, uuid);

@@ -5,21 +5,21 @@ use Rattle.life_bytes.specs.Fields.{with_piece}
 use Rattle.life_bytes.specs.Crc.{crc32c, holed}
 
 -- a row of a table: where a field begins, how many bytes it has, and those bytes
-pub record Row : Type 0 where
+pub record Field : Type 0 where
   pub at : ℕ
   pub width : ℕ
   pub bytes : List ℕ
 
 -- a field that holds a number, the highest byte first
-abbrev pub number : ℕ → ℕ → ℕ → Row
+abbrev pub number : ℕ → ℕ → ℕ → Field
 number at width value = record { at = at; width = width; bytes = big_bytes width value }
 
 -- a field that holds these bytes
-abbrev pub piece : ℕ → ℕ → List ℕ → Row
+abbrev pub piece : ℕ → ℕ → List ℕ → Field
 piece at width bytes = record { at = at; width = width; bytes = bytes }
 
 -- the bytes with the fields of a table put in
-unfoldable pub placed : List Row → List ℕ → List ℕ
+unfoldable pub placed : List Field → List ℕ → List ℕ
 placed [] bytes = bytes
 placed (row ∷ rows) bytes = placed rows (with_piece row.width row.at row.bytes bytes)
 

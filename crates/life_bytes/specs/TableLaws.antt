@@ -10,7 +10,7 @@ use Rattle.life_bytes.specs.Fields.{field, with_piece, with_field}
 use Rattle.life_bytes.specs.declared.sector.Sector.{Sector}
 use Rattle.life_bytes.specs.Sectors.{zero_sector}
 use Rattle.life_bytes.specs.Crc.{crc32c, holed}
-use Rattle.life_bytes.specs.Pieces.{Row, number, placed, zeros, blank, sealed}
+use Rattle.life_bytes.specs.Pieces.{Field, number, placed, zeros, blank, sealed}
 use Rattle.life_bytes.specs.PieceLaws.{Apart, length-with_piece, piece_same, piece_other, piece_comm, piece_over, piece_within}
 
 -- ---- zeros
@@ -45,19 +45,19 @@ number_at n at v bytes small e =
 -- ---- tables
 
 -- the row lies within so many bytes, and has as many as its width says
-abbrev pub IsRow : ℕ → Row → Type 0
-IsRow size row = (row.at + row.width ≤ size) × (length row.bytes ≡ row.width)
+abbrev pub IsField : ℕ → Field → Type 0
+IsField size row = (row.at + row.width ≤ size) × (length row.bytes ≡ row.width)
 
-abbrev pub AreRows : ℕ → List Row → Type 0
-AreRows size rows = AllByRecursion (IsRow size) rows
+abbrev pub AreFields : ℕ → List Field → Type 0
+AreFields size rows = AllByRecursion (IsField size) rows
 
 -- no row has a byte of the n from a place on: the test
-abbrev pub is_aside : ℕ → ℕ → List Row → Bool
+abbrev pub is_aside : ℕ → ℕ → List Field → Bool
 is_aside at n [] = true
 is_aside at n (row ∷ rows) = (nat_le (row.at + row.width) at || nat_le (at + n) row.at) && is_aside at n rows
 
 -- the same as a fact
-abbrev pub IsAside : ℕ → ℕ → List Row → Type 0
+abbrev pub IsAside : ℕ → ℕ → List Field → Type 0
 IsAside at n rows = AllByRecursion (λ row. Apart row.at row.width at n) rows
 
 one_aside : (a b c d : ℕ) (rest : Bool) → ((nat_le a b || nat_le c d) && rest) ≡ true → ((a ≤ b) ⊎ (c ≤ d)) × (rest ≡ true)
@@ -68,29 +68,29 @@ one_aside a b c d rest e = split (nat_le a b) refl (nat_le c d) refl e
     split false p true q h = (inr (leb-true c d q), h)
     split false p false q h = absurd cc
 
-pub aside_from_test : (at n : ℕ) (rows : List Row) → is_aside at n rows ≡ true → IsAside at n rows
+pub aside_from_test : (at n : ℕ) (rows : List Field) → is_aside at n rows ≡ true → IsAside at n rows
 aside_from_test at n [] e = tt
 aside_from_test at n (row ∷ rows) e =
     let both = one_aside (row.at + row.width) at (at + n) row.at (is_aside at n rows) e in
     (both.0, aside_from_test at n rows both.1)
 
-aside_part : (at n i m : ℕ) (rows : List Row) → i + m ≤ n → IsAside at n rows → IsAside (at + i) m rows
+aside_part : (at n i m : ℕ) (rows : List Field) → i + m ≤ n → IsAside at n rows → IsAside (at + i) m rows
 aside_part at n i m [] within h = tt
 aside_part at n i m (row ∷ rows) within h =
     let one : Apart row.at row.width (at + i) m = elim (h.0) [ inl le ↦ inl (omega arith) | inr le ↦ inr (omega arith) ] in
     (one, aside_part at n i m rows within h.1)
 
-rows_again : (row : Row) (rows : List Row) (base : List ℕ) → IsRow (length base) row → AreRows (length base) rows → AreRows (length (with_piece row.width row.at row.bytes base)) rows
-rows_again row rows base one others = subst (λ (size : ℕ). AreRows size rows) (sym (length-with_piece row.width row.at row.bytes base one.0 one.1)) others
+rows_again : (row : Field) (rows : List Field) (base : List ℕ) → IsField (length base) row → AreFields (length base) rows → AreFields (length (with_piece row.width row.at row.bytes base)) rows
+rows_again row rows base one others = subst (λ (size : ℕ). AreFields size rows) (sym (length-with_piece row.width row.at row.bytes base one.0 one.1)) others
 
-pub length-placed : (rows : List Row) (base : List ℕ) → AreRows (length base) rows → length (placed rows base) ≡ length base
+pub length-placed : (rows : List Field) (base : List ℕ) → AreFields (length base) rows → length (placed rows base) ≡ length base
 unfolding placed
 length-placed [] base h = refl
 length-placed (row ∷ rows) base h =
     length-placed rows (with_piece row.width row.at row.bytes base) (rows_again row rows base h.0 h.1) ∙ length-with_piece row.width row.at row.bytes base h.0.0 h.0.1
 
 -- what no row covers
-pub placed_other : (rows : List Row) (base : List ℕ) (at n : ℕ) → AreRows (length base) rows → IsAside at n rows → take n (drop at (placed rows base)) ≡ take n (drop at base)
+pub placed_other : (rows : List Field) (base : List ℕ) (at n : ℕ) → AreFields (length base) rows → IsAside at n rows → take n (drop at (placed rows base)) ≡ take n (drop at base)
 unfolding placed
 placed_other [] base at n h aside = refl
 placed_other (row ∷ rows) base at n h aside =
@@ -101,23 +101,23 @@ some_is : {X : Type 0} (x y : X) → Some x ≡ Some y → x ≡ y
 some_is x y e = cc
 
 -- what a row holds, where no later row covers it
-pub row_at : (rows : List Row) (k : ℕ) (row : Row) (base : List ℕ) → AreRows (length base) rows → slice_get rows k ≡ Some row
+pub field_at : (rows : List Field) (k : ℕ) (row : Field) (base : List ℕ) → AreFields (length base) rows → slice_get rows k ≡ Some row
     → is_aside row.at row.width (drop (k + 1) rows) ≡ true → take row.width (drop row.at (placed rows base)) ≡ row.bytes
 unfolding placed
-row_at [] k row base h found aside = absurd cc
-row_at (first ∷ rows) zero row base h found aside =
+field_at [] k row base h found aside = absurd cc
+field_at (first ∷ rows) zero row base h found aside =
     let same : first ≡ row = some_is first row found in
-    let free : IsAside first.at first.width rows = aside_from_test first.at first.width rows (subst (λ (r : Row). is_aside r.at r.width rows ≡ true) (sym same) aside) in
+    let free : IsAside first.at first.width rows = aside_from_test first.at first.width rows (subst (λ (r : Field). is_aside r.at r.width rows ≡ true) (sym same) aside) in
     let bytes : take first.width (drop first.at (placed rows (with_piece first.width first.at first.bytes base))) ≡ first.bytes =
     placed_other rows (with_piece first.width first.at first.bytes base) first.at first.width (rows_again first rows base h.0 h.1) free
     ∙ piece_same first.width first.at first.bytes base h.0.0 h.0.1 in
-    subst (λ (r : Row). take r.width (drop r.at (placed rows (with_piece first.width first.at first.bytes base))) ≡ r.bytes) same bytes
-row_at (first ∷ rows) (suc k) row base h found aside =
+    subst (λ (r : Field). take r.width (drop r.at (placed rows (with_piece first.width first.at first.bytes base))) ≡ r.bytes) same bytes
+field_at (first ∷ rows) (suc k) row base h found aside =
     let e : suc k + 1 ≡ suc (k + 1) = omega arith in
-    row_at rows k row (with_piece first.width first.at first.bytes base) (rows_again first rows base h.0 h.1) found
+    field_at rows k row (with_piece first.width first.at first.bytes base) (rows_again first rows base h.0 h.1) found
     (subst (λ (j : ℕ). is_aside row.at row.width (drop j (first ∷ rows)) ≡ true) e aside)
 
-placed_comm : (rows : List Row) (base : List ℕ) (n at : ℕ) (p : List ℕ) → AreRows (length base) rows → IsAside at n rows → at + n ≤ length base → length p ≡ n
+placed_comm : (rows : List Field) (base : List ℕ) (n at : ℕ) (p : List ℕ) → AreFields (length base) rows → IsAside at n rows → at + n ≤ length base → length p ≡ n
     → with_piece n at p (placed rows base) ≡ placed rows (with_piece n at p base)
 unfolding placed
 placed_comm [] base n at p h aside fits len = refl
@@ -128,11 +128,11 @@ placed_comm (row ∷ rows) base n at p h aside fits len =
     ∙ ap (placed rows) (sym (piece_comm row.width row.at row.bytes n at p base h.0.0 h.0.1 fits len aside.0))
 
 -- a row with a piece put into its bytes
-abbrev pub with_part : ℕ → ℕ → List ℕ → Row → Row
+abbrev pub with_part : ℕ → ℕ → List ℕ → Field → Field
 with_part n i p row = record { at = row.at; width = row.width; bytes = with_piece n i p row.bytes }
 
 -- a piece put into what a row holds, where no later row covers it
-pub row_changes : (rows : List Row) (k : ℕ) (row : Row) (n i : ℕ) (p base : List ℕ) → AreRows (length base) rows → slice_get rows k ≡ Some row
+pub row_changes : (rows : List Field) (k : ℕ) (row : Field) (n i : ℕ) (p base : List ℕ) → AreFields (length base) rows → slice_get rows k ≡ Some row
     → is_aside row.at row.width (drop (k + 1) rows) ≡ true → i + n ≤ row.width → length p ≡ n
     → with_piece n (row.at + i) p (placed rows base) ≡ placed (set rows k (with_part n i p row)) base
 unfolding placed
@@ -140,14 +140,14 @@ row_changes [] k row n i p base h found aside within len = absurd cc
 row_changes (first ∷ rows) zero row n i p base h found aside within len =
     let same : first ≡ row = some_is first row found in
     let next = with_piece first.width first.at first.bytes base in
-    let free : IsAside first.at first.width rows = aside_from_test first.at first.width rows (subst (λ (r : Row). is_aside r.at r.width rows ≡ true) (sym same) aside) in
-    let inner : i + n ≤ first.width = subst (λ (r : Row). i + n ≤ r.width) (sym same) within in
+    let free : IsAside first.at first.width rows = aside_from_test first.at first.width rows (subst (λ (r : Field). is_aside r.at r.width rows ≡ true) (sym same) aside) in
+    let inner : i + n ≤ first.width = subst (λ (r : Field). i + n ≤ r.width) (sym same) within in
     let long = length-with_piece first.width first.at first.bytes base h.0.0 h.0.1 in
     let moved : with_piece n (first.at + i) p (placed rows next) ≡ placed rows (with_piece n (first.at + i) p next) =
     placed_comm rows next n (first.at + i) p (rows_again first rows base h.0 h.1) (aside_part first.at first.width i n rows inner free) (omega (arith, long, h.0.0)) len in
     let put : with_piece n (first.at + i) p next ≡ with_piece first.width first.at (with_piece n i p first.bytes) base =
     piece_within n i p first.width first.at first.bytes base h.0.0 h.0.1 inner len in
-    subst (λ (r : Row). with_piece n (r.at + i) p (placed rows next) ≡ placed (with_part n i p r ∷ rows) base) same (moved ∙ ap (placed rows) put)
+    subst (λ (r : Field). with_piece n (r.at + i) p (placed rows next) ≡ placed (with_part n i p r ∷ rows) base) same (moved ∙ ap (placed rows) put)
 row_changes (first ∷ rows) (suc k) row n i p base h found aside within len =
     let e : suc k + 1 ≡ suc (k + 1) = omega arith in
     row_changes rows k row n i p (with_piece first.width first.at first.bytes base) (rows_again first rows base h.0 h.1) found
@@ -199,28 +199,28 @@ sealed_again_twice at n other p m third q bytes fits fits_p len apart fits_q len
 
 -- ---- a sector as a table with its checksum
 
-pub in_blank : (rows : List Row) → AreRows 512 rows → AreRows (length blank) rows
-in_blank rows h = subst (λ (size : ℕ). AreRows size rows) (sym length-blank) h
+pub in_blank : (rows : List Field) → AreFields 512 rows → AreFields (length blank) rows
+in_blank rows h = subst (λ (size : ℕ). AreFields size rows) (sym length-blank) h
 
-pub length-table : (rows : List Row) → AreRows 512 rows → length (placed rows blank) ≡ 512
+pub length-table : (rows : List Field) → AreFields 512 rows → length (placed rows blank) ≡ 512
 length-table rows h = length-placed rows blank (in_blank rows h) ∙ length-blank
 
-pub length-sealed_table : (at : ℕ) (rows : List Row) → AreRows 512 rows → at + 4 ≤ 512 → length (sealed at (placed rows blank)) ≡ 512
+pub length-sealed_table : (at : ℕ) (rows : List Field) → AreFields 512 rows → at + 4 ≤ 512 → length (sealed at (placed rows blank)) ≡ 512
 length-sealed_table at rows h fits =
     let long = length-table rows h in
     length-sealed at (placed rows blank) (omega (arith, long)) ∙ long
 
 -- what a row holds, where neither a later row nor the checksum covers it
-pub sealed_row : (at : ℕ) (rows : List Row) (k : ℕ) (row : Row) → AreRows 512 rows → at + 4 ≤ 512 → slice_get rows k ≡ Some row
+pub sealed_row : (at : ℕ) (rows : List Field) (k : ℕ) (row : Field) → AreFields 512 rows → at + 4 ≤ 512 → slice_get rows k ≡ Some row
     → is_aside row.at row.width (record { at = at; width = 4; bytes = [] } ∷ drop (k + 1) rows) ≡ true
     → take row.width (drop row.at (sealed at (placed rows blank))) ≡ row.bytes
 sealed_row at rows k row h fits found aside =
     let long = length-table rows h in
     let both = one_aside (at + 4) row.at (row.at + row.width) at (is_aside row.at row.width (drop (k + 1) rows)) aside in
-    sealed_other at (placed rows blank) row.width row.at (omega (arith, long)) both.0 ∙ row_at rows k row blank (in_blank rows h) found both.1
+    sealed_other at (placed rows blank) row.width row.at (omega (arith, long)) both.0 ∙ field_at rows k row blank (in_blank rows h) found both.1
 
 -- the number in such a row
-pub sealed_number : (at : ℕ) (rows : List Row) (k place width value : ℕ) → AreRows 512 rows → at + 4 ≤ 512 → slice_get rows k ≡ Some (number place width value)
+pub sealed_number : (at : ℕ) (rows : List Field) (k place width value : ℕ) → AreFields 512 rows → at + 4 ≤ 512 → slice_get rows k ≡ Some (number place width value)
     → is_aside place width (record { at = at; width = 4; bytes = [] } ∷ drop (k + 1) rows) ≡ true → value < 256 ^ width
     → field width place (sealed at (placed rows blank)) ≡ value
 sealed_number at rows k place width value h fits found aside small =
@@ -233,8 +233,8 @@ with_number_as_byte at v bytes fits small =
     rw (e, add-one, ← set_split bytes at v fits) refl
 
 -- a piece put right behind a front, over zeros
-pub put_behind : (front p : List ℕ) (n at m : ℕ) → length front ≡ at → n ≤ m → with_piece n at p (front ++ zeros m) ≡ (front ++ p) ++ zeros (m - n)
-put_behind front p n at m long fits =
+pub put_at_end : (front p : List ℕ) (n at m : ℕ) → length front ≡ at → n ≤ m → with_piece n at p (front ++ zeros m) ≡ (front ++ p) ++ zeros (m - n)
+put_at_end front p n at m long fits =
     let rest : drop (at + n) (front ++ zeros m) ≡ zeros (m - n) =
     sym (drop-drop n at (front ++ zeros m)) ∙ ap (drop n) (drop_at front (zeros m) at long) ∙ drop-zeros n m in
     rw (take_at front (zeros m) at long, rest) (sym (append_assoc front p (zeros (m - n))))

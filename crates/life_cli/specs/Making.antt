@@ -7,7 +7,7 @@ use Rattle.life_ports.specs.Faults.{Rose}
 use Rattle.disk_model.specs.Disk.{Cell, HasOneImage, IsImage, as_read}
 use Rattle.disk_model.specs.Images.{Given, attached, created}
 use Rattle.geometry.specs.declared.shape.Geometry.{Geometry}
-use Rattle.whole_image.specs.Front.{anchor_of}
+use Rattle.geometry.specs.Places.{anchor_of}
 use Rattle.image_make.specs.declared.fault.MakeFault.{MakeFault}
 use Rattle.image_make.specs.declared.fault.MakeFault.TheVariants as fault
 use Rattle.image_make.specs.Empty.{AwaitsSuperblock}

@@ -13,8 +13,8 @@ abbrev pub FailsNext : Plan → Type 0
 FailsNext plan = Contains plan.fails (next_count plan.calls)
 
 -- one call more
-abbrev pub after_call : Plan → Plan
-after_call plan = record plan { calls = next_count plan.calls }
+abbrev pub plan_after_call : Plan → Plan
+plan_after_call plan = record plan { calls = next_count plan.calls }
 
 -- one fault more
 abbrev pub after_fault : Plan → Plan

@@ -1,6 +1,6 @@
 // Faults on a plan, for the objects that live in memory.
 ghost use Rattle.std.specs.Prelude.{◌≡◌, ◌↔◌, IsErr, OnOk, OnErr};
-ghost use Rattle.life_ports.specs.FaultPlan.{FailsNext, after_call, after_fault};
+ghost use Rattle.life_ports.specs.FaultPlan.{FailsNext, plan_after_call, after_fault};
 ghost use Rattle.life_ports.specs.Faults.{HasCause, NeverFalls};
 
 use crate::Failed;
@@ -45,8 +45,8 @@ impl FaultPlan {
     /// Counts a call, and where it is one of those that are to fail, a fault too.
     pub fn call(&mut self) -> Result<(), Failed>
         ensures listed { IsErr result ↔ FailsNext self.old }
-        ensures ok { OnOk result (self.new ≡ after_call self.old) }
-        ensures err { OnErr result (self.new ≡ after_fault (after_call self.old)) }
+        ensures ok { OnOk result (self.new ≡ plan_after_call self.old) }
+        ensures err { OnErr result (self.new ≡ after_fault (plan_after_call self.old)) }
         ensures cause { HasCause result self.old.faults self.new.faults }
     {
         self.calls = self.calls.saturating_add(1);

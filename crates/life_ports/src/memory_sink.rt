@@ -1,6 +1,6 @@
 // A sink that keeps its bytes in memory.
 ghost use Rattle.std.specs.Prelude.{◌≡◌, [], ◌++◌, length, IsErr, IfOk, OnOk, OnErr, Some};
-ghost use Rattle.life_ports.specs.FaultPlan.{FailsNext, after_call, after_fault};
+ghost use Rattle.life_ports.specs.FaultPlan.{FailsNext, plan_after_call, after_fault};
 ghost use Rattle.life_ports.specs.Faults.{HasCause};
 
 use crate::{Failed, FaultPlan, Sink};
@@ -55,9 +55,9 @@ impl Sink for MemorySink {
         ensures listed { FailsNext self.old.plan → IsErr result }
         ensures whole { IfOk result (λ n. n ≡ length piece.now) }
         ensures ok { OnOk result (self.new ≡ record
-            { held = self.old.held ++ piece.now; plan = after_call self.old.plan }) }
+            { held = self.old.held ++ piece.now; plan = plan_after_call self.old.plan }) }
         ensures err { OnErr result (self.new ≡ record self.old
-            { plan = after_fault (after_call self.old.plan) }) }
+            { plan = after_fault (plan_after_call self.old.plan) }) }
         ensures cause { HasCause result self.old.plan.faults self.new.plan.faults }
     {
         self.plan.call()?;

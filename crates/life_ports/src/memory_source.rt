@@ -1,8 +1,8 @@
 // A source whose bytes are in memory.
 ghost use Rattle.std.specs.Prelude.{◌≡◌, ◌↔◌, IsErr, IfOk, OnErr, Some};
-ghost use Rattle.life_ports.specs.FaultPlan.{FailsNext, after_call, after_fault};
+ghost use Rattle.life_ports.specs.FaultPlan.{FailsNext, plan_after_call, after_fault};
 ghost use Rattle.life_ports.specs.Faults.{HasCause};
-ghost use Rattle.life_ports.specs.MemorySource.{Gives};
+ghost use Rattle.life_ports.specs.MemorySource.{GivesBytes};
 
 use crate::{Failed, FaultPlan, Source};
 use std::marker::Model;
@@ -52,9 +52,9 @@ impl Source for MemorySource {
 
     fn read(&mut self, into: &mut [u8]) -> Result<usize, Failed>
         ensures listed { IsErr result ↔ FailsNext self.old.plan }
-        ensures ok { IfOk result (Gives self.old self.new into.old into.new) }
+        ensures ok { IfOk result (GivesBytes self.old self.new into.old into.new) }
         ensures err { OnErr result (self.new ≡ record self.old
-            { plan = after_fault (after_call self.old.plan) }) }
+            { plan = after_fault (plan_after_call self.old.plan) }) }
         ensures piece_kept { OnErr result (into.new ≡ into.old) }
         ensures cause { HasCause result self.old.plan.faults self.new.plan.faults }
     {

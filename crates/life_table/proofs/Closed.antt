@@ -17,7 +17,7 @@ use Rattle.life_table.specs.declared.types.Entry.{Entry}
 use Rattle.life_table.specs.declared.table.Inode.{Inode}
 use Rattle.life_table.specs.declared.table.Chunk.{Chunk}
 use Rattle.life_table.specs.declared.table.Table.{Table}
-use Rattle.life_table.specs.Table.{Group, group_number, group_of, with_group, inode_of, row_in_life, row_of, with_row, in_use, with_inode, map_chunk, map_group}
+use Rattle.life_table.specs.Table.{Group, group_number, group_at, with_group, inode_of, row_in_life, row_of, with_row, in_use, with_inode, map_chunk, map_group}
 use Rattle.life_table.specs.Space.{times, chunk_blocks, row_blocks, inode_blocks, used, is_free_block, free_blocks, begins_run, chunk_place, new_chunk, insert_chunk, is_free, keys_from, free_keys, lowest_key, with_chunk, prepared}
 use Rattle.life_table.specs.Legal.{Awaits, HasNoNumber, IsNextKey, IsNoHold, KeyReplies, Permits, RowReplies, free_of, prepare, made_row, row_after, with_changed, after_call}
 use Rattle.life_table.specs.History.{Happens, Leads, changed, is_change, changes, after_event, after_entries, closed_row, closed_inode, closed, After}
@@ -137,11 +137,11 @@ prepared-closed blocks g group =
 prepare-closed : (t : Table) (g : ℕ) → prepare (closed t) g ≡ closed (prepare t g)
 prepare-closed t g =
     let whole : Group → Table = λ group. with_group (closed t) g group in
-    ap whole (ap (prepared t.blocks g) (group_of-map closed_inode t g) ∙ prepared-closed t.blocks g (group_of t g))
-    ∙ sym (with_group-map closed_inode t g (prepared t.blocks g (group_of t g)))
+    ap whole (ap (prepared t.blocks g) (group_of-map closed_inode t g) ∙ prepared-closed t.blocks g (group_at t g))
+    ∙ sym (with_group-map closed_inode t g (prepared t.blocks g (group_at t g)))
 
 free_of-closed : (t : Table) (key : Key) → free_of (closed t) key ≡ free_of t key
-free_of-closed t key = ap (free_blocks t.blocks) (group_of-map closed_inode t (group_number key)) ∙ free_blocks-closed t.blocks (group_of t (group_number key))
+free_of-closed t key = ap (free_blocks t.blocks) (group_of-map closed_inode t (group_number key)) ∙ free_blocks-closed t.blocks (group_at t (group_number key))
 
 -- holds given up twice
 closed_row-twice : (o : Option Row) → closed_row (closed_row o) ≡ closed_row o
@@ -312,15 +312,15 @@ After-between t entries u n leads =
 closed_groups : (t : Table) → length (closed t).groups ≡ length t.groups
 closed_groups t = length-map t.groups (map_group closed_inode)
 
-next_key-closed : (t : Table) (g : ℕ) → lowest_key g (prepared t.blocks g (group_of (closed t) g)) ≡ lowest_key g (prepared t.blocks g (group_of t g))
+next_key-closed : (t : Table) (g : ℕ) → lowest_key g (prepared t.blocks g (group_at (closed t) g)) ≡ lowest_key g (prepared t.blocks g (group_at t g))
 next_key-closed t g =
     ap (λ group. lowest_key g (prepared t.blocks g group)) (group_of-map closed_inode t g)
-    ∙ ap (lowest_key g) (prepared-closed t.blocks g (group_of t g)) ∙ ap (λ keys. slice_get keys 0) (free_keys-closed g (prepared t.blocks g (group_of t g)))
+    ∙ ap (lowest_key g) (prepared-closed t.blocks g (group_at t g)) ∙ ap (λ keys. slice_get keys 0) (free_keys-closed g (prepared t.blocks g (group_at t g)))
 
-no_number-closed : (t : Table) (g : ℕ) → (lowest_key g (group_of (closed t) g) ≡ lowest_key g (group_of t g)) × (chunk_place t.blocks (group_of (closed t) g) ≡ chunk_place t.blocks (group_of t g))
+no_number-closed : (t : Table) (g : ℕ) → (lowest_key g (group_at (closed t) g) ≡ lowest_key g (group_at t g)) × (chunk_place t.blocks (group_at (closed t) g) ≡ chunk_place t.blocks (group_at t g))
 no_number-closed t g = (
-  ap (lowest_key g) (group_of-map closed_inode t g) ∙ ap (λ keys. slice_get keys 0) (free_keys-closed g (group_of t g)),
-  ap (chunk_place t.blocks) (group_of-map closed_inode t g) ∙ chunk_place-closed t.blocks (group_of t g),
+  ap (lowest_key g) (group_of-map closed_inode t g) ∙ ap (λ keys. slice_get keys 0) (free_keys-closed g (group_at t g)),
+  ap (chunk_place t.blocks) (group_of-map closed_inode t g) ∙ chunk_place-closed t.blocks (group_at t g),
 )
 
 along : (P : List ℕ → Type 0) (a b : List ℕ) → a ≡ b → P a ↔ P b

@@ -11,11 +11,11 @@ use Rattle.life_table.specs.declared.types.Event.TheVariants.{Freed}
 use Rattle.life_table.specs.declared.table.Inode.{Inode}
 use Rattle.life_table.specs.declared.table.Chunk.{Chunk}
 use Rattle.life_table.specs.declared.table.Table.{Table}
-use Rattle.life_table.specs.Table.{Group, start_of, group_of, inode_in, inode_of, row_in_life, row_of, with_inode, set_inode, map_chunk, map_group, map_inodes}
+use Rattle.life_table.specs.Table.{Group, start_of, group_at, inode_in, inode_of, row_in_life, row_of, with_inode, set_inode, map_chunk, map_group, map_inodes}
 use Rattle.life_table.specs.Space.{times, chunk_blocks, row_blocks, inode_blocks, used}
 use Rattle.life_table.specs.Legal.{Awaits, freed, Frees}
 use Rattle.life_table.specs.History.{Leads, closed_row, closed_inode, closed, recovered_as, recovered_inode, recovered, orphans_of, orphans_in, orphans_among, orphans_all, orphans, frees_of}
-use Rattle.life_table.specs.WellFormed.{IsRow, IsInode, IsChunk, IsGroup, IsTable, Ascends}
+use Rattle.life_table.specs.WellFormed.{IsRow, IsInode, IsChunk, IsGroup, IsTable, ChunksAscend}
 use Rattle.life_table.proofs.Counts.{times-append, times-nil, times-used_cons}
 use Rattle.life_table.proofs.Closed.{row_of-closed}
 use Rattle.life_table.proofs.Groups.{AllByRecursion-get}
@@ -63,7 +63,7 @@ orphans-with_inode : (t : Table) (number : ℕ) (old new : Inode) → inode_of t
 unfolding with_inode inode_of
 orphans-with_inode t number old new at =
     let g = number / GROUP_NUMBERS in
-    let group = group_of t g in
+    let group = group_at t g in
     let one = orphans_among-set group (number % GROUP_NUMBERS) old new at in
     let all = orphans_all-set t.groups g (set_inode group (number % GROUP_NUMBERS) new) (has_group t number old at) in
     omega (arith, one, all)
@@ -146,7 +146,7 @@ unfolding inode_of
 found_key t ok some =
     let which = found_group t.groups some in
     let g : ℕ = which.0 in
-    let group = group_of t g in
+    let group = group_at t g in
     let well = IsGroup-group_of t g ok in
     let among = found_among group which.1 in
     let found = among.found in
@@ -159,8 +159,8 @@ found_key t ok some =
     let number : ℕ = g * GROUP_NUMBERS + (among.chunk.start + found.place) in
     let in_group : number / GROUP_NUMBERS ≡ g = omega (arith, end, low) in
     let agino : number % GROUP_NUMBERS ≡ among.chunk.start + found.place = omega (arith, end, low) in
-    let at : inode_in (group_of t (number / GROUP_NUMBERS)) (number % GROUP_NUMBERS) ≡ Some found.inode =
-    (λ i. inode_in (group_of t (in_group i)) (agino i)) ∙ inode_in-at group among.where_ among.chunk found.place well.ascends among.has start low ∙ found.at in
+    let at : inode_in (group_at t (number / GROUP_NUMBERS)) (number % GROUP_NUMBERS) ≡ Some found.inode =
+    (λ i. inode_in (group_at t (in_group i)) (agino i)) ∙ inode_in-at group among.where_ among.chunk found.place well.ascends among.has start low ∙ found.at in
     record {
       key = record { number = number; generation = found.inode.generation };
       row = found.row;
@@ -255,7 +255,7 @@ module _ (change : Inode → Inode) (well : (inode : Inode) → IsInode inode �
   starts_map P [] all = tt
   starts_map P (chunk ∷ chunks) all = (all.0, starts_map P chunks all.1)
 
-  ascends_map : (chunks : List Chunk) → Ascends chunks → Ascends (map_group change chunks)
+  ascends_map : (chunks : List Chunk) → ChunksAscend chunks → ChunksAscend (map_group change chunks)
   ascends_map [] ascends = tt
   ascends_map (chunk ∷ chunks) ascends = (starts_map (λ (s : ℕ). chunk.start < s) chunks ascends.0, ascends_map chunks ascends.1)
 

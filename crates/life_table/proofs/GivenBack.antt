@@ -11,7 +11,7 @@ use Rattle.life_table.specs.declared.types.Reply.{Reply}
 use Rattle.life_table.specs.declared.types.Reply.TheVariants as reply
 use Rattle.life_table.specs.declared.table.Inode.{Inode}
 use Rattle.life_table.specs.declared.table.Table.{Table}
-use Rattle.life_table.specs.Table.{Group, group_number, group_of, inode_of, row_of, with_row, in_use, with_inode, set_inode}
+use Rattle.life_table.specs.Table.{Group, group_number, group_at, inode_of, row_of, with_row, in_use, with_inode, set_inode}
 use Rattle.life_table.specs.Space.{times, row_blocks, used, is_free_block, free_blocks, lowest_key, chunk_place, new_chunk, with_chunk, prepared}
 use Rattle.life_table.specs.Legal.{free_in, free_of, last_blocks, prepare, IsNextKey, Permits, Legal, made_row, row_after, with_changed, after_call, freed, Frees, IsNoCut}
 use Rattle.life_table.specs.WellFormed.{IsGroup, IsTable, IsDataBlock}
@@ -109,24 +109,24 @@ free_fewer blocks before after b more =
 
 -- the group of a number whose inode was changed
 group_of-with_inode : (t : Table) (number : ℕ) (old new : Inode) → inode_of t number ≡ Some old
-    → group_of (with_inode t number new) (number / GROUP_NUMBERS) ≡ set_inode (group_of t (number / GROUP_NUMBERS)) (number % GROUP_NUMBERS) new
+    → group_at (with_inode t number new) (number / GROUP_NUMBERS) ≡ set_inode (group_at t (number / GROUP_NUMBERS)) (number % GROUP_NUMBERS) new
 unfolding with_inode
 group_of-with_inode t number old new at =
     let g = number / GROUP_NUMBERS in
-    group_of-with_same t g (set_inode (group_of t g) (number % GROUP_NUMBERS) new) (has_group t number old at)
+    group_of-with_same t g (set_inode (group_at t g) (number % GROUP_NUMBERS) new) (has_group t number old at)
 
-pub group_of-with_inode_other : (t : Table) (number g : ℕ) (new : Inode) → g ≢ number / GROUP_NUMBERS → group_of (with_inode t number new) g ≡ group_of t g
+pub group_of-with_inode_other : (t : Table) (number g : ℕ) (new : Inode) → g ≢ number / GROUP_NUMBERS → group_at (with_inode t number new) g ≡ group_at t g
 unfolding with_inode
 group_of-with_inode_other t number g new apart =
-    group_of-with_other t (number / GROUP_NUMBERS) g (set_inode (group_of t (number / GROUP_NUMBERS)) (number % GROUP_NUMBERS) new) apart
+    group_of-with_other t (number / GROUP_NUMBERS) g (set_inode (group_at t (number / GROUP_NUMBERS)) (number % GROUP_NUMBERS) new) apart
 
 used-with_inode : (t : Table) (number : ℕ) (old new : Inode) (b : ℕ) → inode_of t number ≡ Some old
-    → times b (used (group_of (with_inode t number new) (number / GROUP_NUMBERS))) + times b (row_blocks old.row) ≡ times b (used (group_of t (number / GROUP_NUMBERS))) + times b (row_blocks new.row)
+    → times b (used (group_at (with_inode t number new) (number / GROUP_NUMBERS))) + times b (row_blocks old.row) ≡ times b (used (group_at t (number / GROUP_NUMBERS))) + times b (row_blocks new.row)
 unfolding inode_of
 used-with_inode t number old new b at =
     let g = number / GROUP_NUMBERS in
     ap (λ group. times b (used group) + times b (row_blocks old.row)) (group_of-with_inode t number old new at)
-    ∙ times-set_inode b (group_of t g) (number % GROUP_NUMBERS) old new at
+    ∙ times-set_inode b (group_at t g) (number % GROUP_NUMBERS) old new at
 
 -- a free gives back the blocks of its row
 pub free_gives : (t : Table) (key : Key) (u : Table) (row : Row) (b : ℕ) → IsTable t → Frees t key u → row_of t key ≡ Some row
@@ -139,11 +139,11 @@ free_gives t key u row b ok frees at =
     let none = times-nil b in
     let same : times b (row_blocks has.inode.row) ≡ times b row.blocks = ap (λ o. times b (row_blocks o)) has.is in
     ap (λ v. times b (free_of v key)) frees.1
-    ∙ free_more t.blocks (group_of t (group_number key)) (group_of (freed t key) (group_number key)) b (times b row.blocks) (IsGroup-group_of t (group_number key) ok) (omega (arith, moved, none, same))
+    ∙ free_more t.blocks (group_at t (group_number key)) (group_at (freed t key) (group_number key)) b (times b row.blocks) (IsGroup-group_of t (group_number key) ok) (omega (arith, moved, none, same))
 
-pub free_keeps_others : (t : Table) (key : Key) (u : Table) (g : ℕ) → Frees t key u → g ≢ group_number key → group_of u g ≡ group_of t g
+pub free_keeps_others : (t : Table) (key : Key) (u : Table) (g : ℕ) → Frees t key u → g ≢ group_number key → group_at u g ≡ group_at t g
 free_keeps_others t key u g frees apart =
-    ap (λ v. group_of v g) frees.1 ∙ group_of-with_inode_other t key.number g (record { generation = key.generation + 1; row = None }) apart
+    ap (λ v. group_at v g) frees.1 ∙ group_of-with_inode_other t key.number g (record { generation = key.generation + 1; row = None }) apart
 
 -- the two parts of a list
 times-take-drop : (b k : ℕ) (xs : List ℕ) → times b (take k xs) + times b (drop k xs) ≡ times b xs
@@ -164,7 +164,7 @@ cut_row t key count (Some first) row b ok at is =
     let parts = times-take-drop b (length first.blocks - count) first.blocks in
     let same : times b (row_blocks has.inode.row) ≡ times b first.blocks = ap (λ o. times b (row_blocks o)) has.is in
     let given : times b (last_blocks count first) ≡ times b (last_blocks count row) = ap (λ r. times b (last_blocks count r)) (same_Some first row is) in
-    free_more t.blocks (group_of t (group_number key)) (group_of (with_inode t key.number new) (group_number key)) b (times b (last_blocks count row))
+    free_more t.blocks (group_at t (group_number key)) (group_at (with_inode t key.number new) (group_number key)) b (times b (last_blocks count row))
     (IsGroup-group_of t (group_number key) ok) (omega (arith, moved, parts, same, given))
 
 pub cut_gives : (t : Table) (key : Key) (count : ℕ) (u : Table) (row : Row) (b : ℕ) → IsTable t → Legal t (call.Cut key count) reply.Done u → row_of t key ≡ Some row
@@ -172,12 +172,12 @@ pub cut_gives : (t : Table) (key : Key) (count : ℕ) (u : Table) (row : Row) (b
 cut_gives t key count u row b ok legal at =
     ap (λ v. times b (free_of v key)) legal.1 ∙ cut_row t key count (row_of t key) row b ok refl at
 
-cut_others : (t : Table) (key : Key) (count : ℕ) (o : Option Row) (g : ℕ) → g ≢ group_number key → group_of (with_changed t key o (call.Cut key count)) g ≡ group_of t g
+cut_others : (t : Table) (key : Key) (count : ℕ) (o : Option Row) (g : ℕ) → g ≢ group_number key → group_at (with_changed t key o (call.Cut key count)) g ≡ group_at t g
 cut_others t key count None g apart = refl
 cut_others t key count (Some row) g apart = group_of-with_inode_other t key.number g (in_use key (row_after t row (call.Cut key count))) apart
 
-pub cut_keeps_others : (t : Table) (key : Key) (count : ℕ) (u : Table) (g : ℕ) → Legal t (call.Cut key count) reply.Done u → g ≢ group_number key → group_of u g ≡ group_of t g
-cut_keeps_others t key count u g legal apart = ap (λ v. group_of v g) legal.1 ∙ cut_others t key count (row_of t key) g apart
+pub cut_keeps_others : (t : Table) (key : Key) (count : ℕ) (u : Table) (g : ℕ) → Legal t (call.Cut key count) reply.Done u → g ≢ group_number key → group_at u g ≡ group_at t g
+cut_keeps_others t key count u g legal apart = ap (λ v. group_at v g) legal.1 ∙ cut_others t key count (row_of t key) g apart
 
 -- a change of an inode whose row has no block less
 inode_keeps : (t : Table) (number : ℕ) (old new : Inode) → inode_of t number ≡ Some old → ((b : ℕ) → times b (row_blocks old.row) ≤ times b (row_blocks new.row))
@@ -189,7 +189,7 @@ inode_keeps t number old new at more g b =
           let moved = used-with_inode t number old new b at in
           let less = more b in
           let at_number : times b (free_in (with_inode t number new) (number / GROUP_NUMBERS)) ≤ times b (free_in t (number / GROUP_NUMBERS)) =
-          free_fewer t.blocks (group_of t (number / GROUP_NUMBERS)) (group_of (with_inode t number new) (number / GROUP_NUMBERS)) b (omega (arith, moved, less)) in
+          free_fewer t.blocks (group_at t (number / GROUP_NUMBERS)) (group_at (with_inode t number new) (number / GROUP_NUMBERS)) b (omega (arith, moved, less)) in
           subst (λ h. times b (free_in (with_inode t number new) h) ≤ times b (free_in t h)) (sym here) at_number
       | inr apart ↦
           let same : times b (free_in (with_inode t number new) g) ≡ times b (free_in t g) = ap (λ group. times b (free_blocks t.blocks group)) (group_of-with_inode_other t number g new apart) in
@@ -219,12 +219,12 @@ used-prepared blocks g group b =
 
 prepare_keeps : (t : Table) (g h b : ℕ) → g < length t.groups → times b (free_in (prepare t g) h) ≤ times b (free_in t h)
 prepare_keeps t g h b there =
-    let ready : Group = prepared t.blocks g (group_of t g) in
+    let ready : Group = prepared t.blocks g (group_at t g) in
     elim (cases_eq h g) [
       | inl here ↦
           let at_g : times b (free_in (prepare t g) g) ≤ times b (free_in t g) =
           subst (λ group. times b (free_blocks t.blocks group) ≤ times b (free_in t g)) (sym (group_of-with_same t g ready there))
-          (free_fewer t.blocks (group_of t g) ready b (used-prepared t.blocks g (group_of t g) b)) in
+          (free_fewer t.blocks (group_at t g) ready b (used-prepared t.blocks g (group_at t g) b)) in
           subst (λ k. times b (free_in (prepare t g) k) ≤ times b (free_in t k)) (sym here) at_g
       | inr apart ↦
           let same : times b (free_in (prepare t g) h) ≡ times b (free_in t h) = ap (λ group. times b (free_blocks t.blocks group)) (group_of-with_other t g h ready apart) in

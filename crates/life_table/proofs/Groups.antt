@@ -10,7 +10,7 @@ use Rattle.life_table.specs.declared.table.Inode.{Inode}
 use Rattle.life_table.specs.declared.table.Chunk.{Chunk}
 use Rattle.life_table.specs.Table.{Group, inode_in, set_inode, start_of}
 use Rattle.life_table.specs.Space.{times, chunk_blocks, row_blocks, used, is_free_block, begins_run, chunk_place, new_chunk, insert_chunk}
-use Rattle.life_table.specs.WellFormed.{IsInode, IsChunk, IsGroup, Ascends}
+use Rattle.life_table.specs.WellFormed.{IsInode, IsChunk, IsGroup, ChunksAscend}
 use Rattle.life_table.proofs.Counts.{times-set_inode, times-insert_chunk, times-used_cons, times-new_chunk, times-chunk, times-chunk_outside, is_free_block-parts}
 use Rattle.life_table.proofs.Lookups.{IsAbsent}
 
@@ -54,11 +54,11 @@ starts-set_inode P (chunk ∷ chunks) agino new all =
       | false ↦ (all.0, starts-set_inode P chunks agino new all.1)
     ]
 
-Ascends-set_inode : (group : Group) (agino : ℕ) (new : Inode) → Ascends group → Ascends (set_inode group agino new)
+Ascends-set_inode : (group : Group) (agino : ℕ) (new : Inode) → ChunksAscend group → ChunksAscend (set_inode group agino new)
 unfolding set_inode
 Ascends-set_inode [] agino new ascends = tt
 Ascends-set_inode (chunk ∷ chunks) agino new ascends =
-    elim (chunk.start == start_of agino) as (λ c. Ascends (if c then record { start = chunk.start; inodes = slice_set chunk.inodes (agino % CHUNK_INODES) new } ∷ chunks else chunk ∷ set_inode chunks agino new)) [
+    elim (chunk.start == start_of agino) as (λ c. ChunksAscend (if c then record { start = chunk.start; inodes = slice_set chunk.inodes (agino % CHUNK_INODES) new } ∷ chunks else chunk ∷ set_inode chunks agino new)) [
       | true ↦ ascends
       | false ↦ (starts-set_inode (λ (start : ℕ). chunk.start < start) chunks agino new ascends.0, Ascends-set_inode chunks agino new ascends.1)
     ]
@@ -196,11 +196,11 @@ All-insert_chunk P new (chunk ∷ chunks) here all =
       | false ↦ (all.0, All-insert_chunk P new chunks here all.1)
     ]
 
-Ascends-insert_chunk : (new : Chunk) (group : Group) → IsAbsent new.start group → Ascends group → Ascends (insert_chunk new group)
+Ascends-insert_chunk : (new : Chunk) (group : Group) → IsAbsent new.start group → ChunksAscend group → ChunksAscend (insert_chunk new group)
 unfolding insert_chunk
 Ascends-insert_chunk new [] absent ascends = (tt, tt)
 Ascends-insert_chunk new (chunk ∷ chunks) absent ascends =
-    elim (nat_lt new.start chunk.start) as (λ c. nat_lt new.start chunk.start ≡ c → Ascends (if c then new ∷ chunk ∷ chunks else chunk ∷ insert_chunk new chunks)) [
+    elim (nat_lt new.start chunk.start) as (λ c. nat_lt new.start chunk.start ≡ c → ChunksAscend (if c then new ∷ chunk ∷ chunks else chunk ∷ insert_chunk new chunks)) [
       | true ↦ λ below.
           let low : new.start < chunk.start = ltb-true new.start chunk.start below in
           let later : AllByRecursion (λ (other : Chunk). new.start < other.start) chunks =

@@ -8,7 +8,7 @@ use Rattle.life_table.specs.declared.table.Inode.{Inode}
 use Rattle.life_table.specs.declared.table.Chunk.{Chunk}
 use Rattle.life_table.specs.Table.{Group, inode_in, start_of}
 use Rattle.life_table.specs.Space.{times, chunk_blocks, used, is_free, keys_from, free_keys, lowest_key, chunk_place, with_chunk, prepared}
-use Rattle.life_table.specs.WellFormed.{IsChunk, IsGroup, Ascends}
+use Rattle.life_table.specs.WellFormed.{IsChunk, IsGroup, ChunksAscend}
 use Rattle.life_table.proofs.Counts.{times-used_cons, times-chunk}
 use Rattle.life_table.proofs.Groups.{AllByRecursion-get, IsPlace-chunk_place, IsGroup-insert_chunk}
 
@@ -70,7 +70,7 @@ lowest-IsAmong g (chunk ∷ chunks) key at =
     ]
 
 -- the inode at a place of a chunk is that of its number
-pub inode_in-at : (group : Group) (where_ : ℕ) (chunk : Chunk) (place : ℕ) → Ascends group → slice_get group where_ ≡ Some chunk → chunk.start % CHUNK_INODES ≡ 0 → place < CHUNK_INODES
+pub inode_in-at : (group : Group) (where_ : ℕ) (chunk : Chunk) (place : ℕ) → ChunksAscend group → slice_get group where_ ≡ Some chunk → chunk.start % CHUNK_INODES ≡ 0 → place < CHUNK_INODES
     → inode_in group (chunk.start + place) ≡ slice_get chunk.inodes place
 unfolding inode_in
 inode_in-at [] where_ chunk place ascends at start low = absurd (none-some chunk at)

@@ -7,7 +7,7 @@ use Rattle.life_table.specs.declared.key.Key.{Key}
 use Rattle.life_table.specs.declared.types.Entry.{Entry}
 use Rattle.life_table.specs.declared.table.Inode.{Inode}
 use Rattle.life_table.specs.declared.table.Table.{Table}
-use Rattle.life_table.specs.Table.{Group, start_of, group_of, inode_in, inode_of, row_in_life, row_of, in_use, with_inode}
+use Rattle.life_table.specs.Table.{Group, start_of, group_at, inode_in, inode_of, row_in_life, row_of, in_use, with_inode}
 use Rattle.life_table.specs.Space.{lowest_key, chunk_place, new_chunk, with_chunk, prepared}
 use Rattle.life_table.specs.Legal.{prepare, made_row}
 use Rattle.life_table.specs.History.{Leads}
@@ -45,13 +45,13 @@ inode_in-prepared blocks g group agino inode at =
 pub inode_of-prepare : (t : Table) (g number : ℕ) (inode : Inode) → inode_of t number ≡ Some inode → inode_of (prepare t g) number ≡ Some inode
 unfolding inode_of
 inode_of-prepare t g number inode at =
-    let ready : Group = prepared t.blocks g (group_of t g) in
+    let ready : Group = prepared t.blocks g (group_at t g) in
     elim (cases_eq (number / GROUP_NUMBERS) g) [
       | inl same ↦
           let here : g < length t.groups = subst (λ h. h < length t.groups) same (has_group t number inode at) in
-          let group : group_of (prepare t g) (number / GROUP_NUMBERS) ≡ ready = ap (λ h. group_of (prepare t g) h) same ∙ group_of-with_same t g ready here in
-          let before : inode_in (group_of t g) (number % GROUP_NUMBERS) ≡ Some inode = ap (λ h. inode_in (group_of t h) (number % GROUP_NUMBERS)) (sym same) ∙ at in
-          ap (λ gr. inode_in gr (number % GROUP_NUMBERS)) group ∙ inode_in-prepared t.blocks g (group_of t g) (number % GROUP_NUMBERS) inode before
+          let group : group_at (prepare t g) (number / GROUP_NUMBERS) ≡ ready = ap (λ h. group_at (prepare t g) h) same ∙ group_of-with_same t g ready here in
+          let before : inode_in (group_at t g) (number % GROUP_NUMBERS) ≡ Some inode = ap (λ h. inode_in (group_at t h) (number % GROUP_NUMBERS)) (sym same) ∙ at in
+          ap (λ gr. inode_in gr (number % GROUP_NUMBERS)) group ∙ inode_in-prepared t.blocks g (group_at t g) (number % GROUP_NUMBERS) inode before
       | inr differ ↦ ap (λ gr. inode_in gr (number % GROUP_NUMBERS)) (group_of-with_other t g (number / GROUP_NUMBERS) ready differ) ∙ at
     ]
 

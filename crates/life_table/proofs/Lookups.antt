@@ -8,7 +8,7 @@ use Rattle.life_limits.specs.declared.TheConstants.{CHUNK_INODES, GROUP_NUMBERS}
 use Rattle.life_table.specs.declared.table.Inode.{Inode}
 use Rattle.life_table.specs.declared.table.Chunk.{Chunk}
 use Rattle.life_table.specs.declared.table.Table.{Table}
-use Rattle.life_table.specs.Table.{Group, inode_in, set_inode, start_of, group_of, with_group, inode_of, with_inode}
+use Rattle.life_table.specs.Table.{Group, inode_in, set_inode, start_of, group_at, with_group, inode_of, with_inode}
 use Rattle.life_table.specs.Space.{insert_chunk}
 
 -- one element changed
@@ -84,10 +84,10 @@ inode_in-insert_chunk new (chunk ∷ chunks) agino absent =
     ]
 
 -- a group of the table that was changed, or was not there
-pub group_of-with_same : (t : Table) (g : ℕ) (group : Group) → g < length t.groups → group_of (with_group t g group) g ≡ group
+pub group_of-with_same : (t : Table) (g : ℕ) (group : Group) → g < length t.groups → group_at (with_group t g group) g ≡ group
 group_of-with_same t g group there = get_or-set_same t.groups g group [] there
 
-pub group_of-with_other : (t : Table) (g h : ℕ) (group : Group) → h ≢ g → group_of (with_group t g group) h ≡ group_of t h
+pub group_of-with_other : (t : Table) (g h : ℕ) (group : Group) → h ≢ g → group_at (with_group t g group) h ≡ group_at t h
 group_of-with_other t g h group apart = get_or-set_other t.groups g h group [] apart
 
 past : {X : Type 0} (xs : List X) (i : ℕ) (d : X) → length xs ≤ i → slice_index_or xs i d ≡ d
@@ -100,7 +100,7 @@ set_past [] i x high = refl
 set_past (y ∷ xs) zero x high = absurd (omega arith)
 set_past (y ∷ xs) (suc i) x high = ap (λ ys. y ∷ ys) (set_past xs i x (omega arith))
 
-pub group_of_past : (t : Table) (g : ℕ) → length t.groups ≤ g → group_of t g ≡ []
+pub group_of_past : (t : Table) (g : ℕ) → length t.groups ≤ g → group_at t g ≡ []
 group_of_past t g high = past t.groups g [] high
 
 -- a number with an inode is in a group of the table
@@ -117,21 +117,21 @@ unfolding inode_of with_inode
 inode_of-with_same t number old new at =
     let g = number / GROUP_NUMBERS in
     let agino = number % GROUP_NUMBERS in
-    ap (λ group. inode_in group agino) (group_of-with_same t g (set_inode (group_of t g) agino new) (has_group t number old at))
-    ∙ inode_in-set_same (group_of t g) agino old new at
+    ap (λ group. inode_in group agino) (group_of-with_same t g (set_inode (group_at t g) agino new) (has_group t number old at))
+    ∙ inode_in-set_same (group_at t g) agino old new at
 
 -- numbers of one group that have one number there are one number
 same_number : (a b : ℕ) → a / GROUP_NUMBERS ≡ b / GROUP_NUMBERS → a % GROUP_NUMBERS ≡ b % GROUP_NUMBERS → a ≡ b
 same_number a b groups aginos = omega arith
 
 -- a group, after one that may not be there was changed to what leaves a group without chunks
-pub group_of-with : (t : Table) (g : ℕ) (change : Group → Group) → change [] ≡ [] → group_of (with_group t g (change (group_of t g))) g ≡ change (group_of t g)
+pub group_of-with : (t : Table) (g : ℕ) (change : Group → Group) → change [] ≡ [] → group_at (with_group t g (change (group_at t g))) g ≡ change (group_at t g)
 group_of-with t g change none =
     elim (cases_lt g (length t.groups)) [
-      | inl low ↦ group_of-with_same t g (change (group_of t g)) low
+      | inl low ↦ group_of-with_same t g (change (group_at t g)) low
       | inr high ↦
-          let before : group_of t g ≡ [] = group_of_past t g high in
-          let same : group_of (with_group t g (change (group_of t g))) g ≡ group_of t g = ap (λ (gs : List Group). slice_index_or gs g []) (set_past t.groups g (change (group_of t g)) high) in
+          let before : group_at t g ≡ [] = group_of_past t g high in
+          let same : group_at (with_group t g (change (group_at t g))) g ≡ group_at t g = ap (λ (gs : List Group). slice_index_or gs g []) (set_past t.groups g (change (group_at t g)) high) in
           same ∙ before ∙ sym none ∙ ap change (sym before)
     ]
 
@@ -145,6 +145,6 @@ inode_of-with_other t number other new apart =
           let change : Group → Group = λ group. set_inode group agino new in
           rw same (
           ap (λ group. inode_in group (other % GROUP_NUMBERS)) (group_of-with t g change refl)
-          ∙ inode_in-set_other (group_of t g) agino (other % GROUP_NUMBERS) new (λ e. apart (same_number number other (sym same) e)))
-      | inr differ ↦ ap (λ group. inode_in group (other % GROUP_NUMBERS)) (group_of-with_other t g (other / GROUP_NUMBERS) (set_inode (group_of t g) agino new) differ)
+          ∙ inode_in-set_other (group_at t g) agino (other % GROUP_NUMBERS) new (λ e. apart (same_number number other (sym same) e)))
+      | inr differ ↦ ap (λ group. inode_in group (other % GROUP_NUMBERS)) (group_of-with_other t g (other / GROUP_NUMBERS) (set_inode (group_at t g) agino new) differ)
     ]

@@ -6,7 +6,7 @@ use Rattle.std.proofs.Math.ListN.{get_or-map}
 use Rattle.life_limits.specs.declared.TheConstants.{CHUNK_INODES, GROUP_NUMBERS}
 use Rattle.life_table.specs.declared.table.Inode.{Inode}
 use Rattle.life_table.specs.declared.table.Table.{Table}
-use Rattle.life_table.specs.Table.{Group, start_of, inode_in, set_inode, group_of, with_group, inode_of, with_inode, map_chunk, map_group, map_inodes}
+use Rattle.life_table.specs.Table.{Group, start_of, inode_in, set_inode, group_at, with_group, inode_of, with_inode, map_chunk, map_group, map_inodes}
 
 -- the inode of a number is the changed one
 inode_in-map : (change : Inode → Inode) (group : Group) (agino : ℕ) → inode_in (map_group change group) agino ≡ option_map change (inode_in group agino)
@@ -19,14 +19,14 @@ inode_in-map change (chunk ∷ chunks) agino =
       | false ↦ inode_in-map change chunks agino
     ]
 
-pub group_of-map : (change : Inode → Inode) (t : Table) (g : ℕ) → group_of (map_inodes change t) g ≡ map_group change (group_of t g)
+pub group_of-map : (change : Inode → Inode) (t : Table) (g : ℕ) → group_at (map_inodes change t) g ≡ map_group change (group_at t g)
 group_of-map change t g = get_or-map (map_group change) t.groups g []
 
 pub inode_of-map : (change : Inode → Inode) (t : Table) (number : ℕ) → inode_of (map_inodes change t) number ≡ option_map change (inode_of t number)
 unfolding inode_of
 inode_of-map change t number =
     ap (λ group. inode_in group (number % GROUP_NUMBERS)) (group_of-map change t (number / GROUP_NUMBERS))
-    ∙ inode_in-map change (group_of t (number / GROUP_NUMBERS)) (number % GROUP_NUMBERS)
+    ∙ inode_in-map change (group_at t (number / GROUP_NUMBERS)) (number % GROUP_NUMBERS)
 
 -- a change of one inode, and of each
 set_inode-map : (change : Inode → Inode) (group : Group) (agino : ℕ) (inode : Inode) → map_group change (set_inode group agino inode) ≡ set_inode (map_group change group) agino (change inode)
@@ -53,8 +53,8 @@ with_inode-map change t number inode =
     let g = number / GROUP_NUMBERS in
     let agino = number % GROUP_NUMBERS in
     let whole : Group → Table = λ group. with_group (map_inodes change t) g group in
-    with_group-map change t g (set_inode (group_of t g) agino inode)
-    ∙ ap whole (set_inode-map change (group_of t g) agino inode ∙ ap (λ group. set_inode group agino (change inode)) (sym (group_of-map change t g)))
+    with_group-map change t g (set_inode (group_at t g) agino inode)
+    ∙ ap whole (set_inode-map change (group_at t g) agino inode ∙ ap (λ group. set_inode group agino (change inode)) (sym (group_of-map change t g)))
 
 -- to change an inode to itself changes nothing
 set_itself : {X : Type 0} (xs : List X) (i : ℕ) (x : X) → slice_get xs i ≡ Some x → slice_set xs i x ≡ xs
@@ -78,7 +78,7 @@ pub with_inode-itself : (t : Table) (number : ℕ) (inode : Inode) → inode_of 
 unfolding with_inode inode_of
 with_inode-itself t number inode at =
     let g = number / GROUP_NUMBERS in
-    ap (of_groups t) (ap (slice_set t.groups g) (set_inode-itself (group_of t g) (number % GROUP_NUMBERS) inode at) ∙ set-get_or t.groups g [])
+    ap (of_groups t) (ap (slice_set t.groups g) (set_inode-itself (group_at t g) (number % GROUP_NUMBERS) inode at) ∙ set-get_or t.groups g [])
 
 -- two changes after each other that are one
 map_twice : (one other both : Inode → Inode) → ((i : Inode) → other (one i) ≡ both i) → (inodes : List Inode) → map other (map one inodes) ≡ map both inodes

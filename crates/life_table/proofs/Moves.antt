@@ -4,7 +4,7 @@ use Rattle.std.proofs.lemmas.Option.{none-some}
 use Rattle.std.proofs.lemmas.Bool.{eqb-true, cases_lt}
 use Rattle.life_limits.specs.declared.TheConstants.{MAX_LINKS, MAX_PINS}
 use Rattle.extent_fork.specs.declared.extent.Extent.{Extent}
-use Rattle.extent_fork.specs.Runs.{runs, runs_from, single, grown, end_of}
+use Rattle.extent_fork.specs.Runs.{runs, runs_from, single, grown, run_end}
 use Rattle.life_table.specs.declared.key.Key.{Key}
 use Rattle.life_table.specs.declared.types.Row.{Row}
 use Rattle.life_table.specs.declared.types.Call.{Call}
@@ -60,7 +60,7 @@ lowered n limit low = omega arith
 runs_from-some : (run : Extent) (blocks : List ℕ) → 1 ≤ length (runs_from run blocks)
 runs_from-some run [] = omega arith
 runs_from-some run (block ∷ blocks) =
-    elim (block == end_of run) as (λ c. 1 ≤ length (if c then runs_from (grown run) blocks else run ∷ runs_from (single block) blocks)) [
+    elim (block == run_end run) as (λ c. 1 ≤ length (if c then runs_from (grown run) blocks else run ∷ runs_from (single block) blocks)) [
       | true ↦ runs_from-some (grown run) blocks
       | false ↦ omega arith
     ]
@@ -69,13 +69,13 @@ runs_from-some run (block ∷ blocks) =
 runs_from-take : (run : Extent) (k : ℕ) (blocks : List ℕ) → length (runs_from run (take k blocks)) ≤ length (runs_from run blocks)
 runs_from-take run zero [] = omega arith
 runs_from-take run zero (block ∷ blocks) =
-    elim (block == end_of run) as (λ c. 1 ≤ length (if c then runs_from (grown run) blocks else run ∷ runs_from (single block) blocks)) [
+    elim (block == run_end run) as (λ c. 1 ≤ length (if c then runs_from (grown run) blocks else run ∷ runs_from (single block) blocks)) [
       | true ↦ runs_from-some (grown run) blocks
       | false ↦ omega arith
     ]
 runs_from-take run (suc k) [] = omega arith
 runs_from-take run (suc k) (block ∷ blocks) =
-    elim (block == end_of run) as (λ c. length (if c then runs_from (grown run) (take k blocks) else run ∷ runs_from (single block) (take k blocks))
+    elim (block == run_end run) as (λ c. length (if c then runs_from (grown run) (take k blocks) else run ∷ runs_from (single block) (take k blocks))
     ≤ length (if c then runs_from (grown run) blocks else run ∷ runs_from (single block) blocks)) [
       | true ↦ runs_from-take (grown run) k blocks
       | false ↦ let rest = runs_from-take (single block) k blocks in omega (arith, rest)

@@ -12,7 +12,7 @@ use Rattle.life_table.specs.declared.types.Reply.{Reply}
 use Rattle.life_table.specs.declared.types.Reply.TheVariants as reply
 use Rattle.life_table.specs.declared.table.Chunk.{Chunk}
 use Rattle.life_table.specs.declared.table.Table.{Table}
-use Rattle.life_table.specs.Table.{Group, group_of, row_of}
+use Rattle.life_table.specs.Table.{Group, group_at, row_of}
 use Rattle.life_table.specs.Space.{keys_from, free_keys, lowest_key, chunk_place, new_chunk, insert_chunk, with_chunk, prepared}
 use Rattle.life_table.specs.Replies.{row_reply, key_reply, create_reply, reply_of}
 use Rattle.life_table.specs.Legal.{free_of, grown_blocks, RowReplies, KeyReplies, Permits, Legal, after_call, IsOfTable, IsOpen, CanMake}
@@ -190,10 +190,10 @@ none_found blocks g group none place = ap (lowest_key g) (prepared_as blocks g g
 
 only : (t : Table) (called : Call) (answer : Reply) → IsOfTable called → Permits t called answer → answer ≡ reply_of t called
 only t (call.Create g) (reply.Made key) of h = ap create_reply (sym h.1)
-only t (call.Create g) reply.NoInodes of h = ap create_reply (sym (none_found t.blocks g (group_of t g) h.1.0 h.1.1))
+only t (call.Create g) reply.NoInodes of h = ap create_reply (sym (none_found t.blocks g (group_at t g) h.1.0 h.1.1))
 only t (call.Create g) _ of h = absurd h
 only t (call.Tmpfile g) (reply.Made key) of h = ap create_reply (sym h.1)
-only t (call.Tmpfile g) reply.NoInodes of h = ap create_reply (sym (none_found t.blocks g (group_of t g) h.1.0 h.1.1))
+only t (call.Tmpfile g) reply.NoInodes of h = ap create_reply (sym (none_found t.blocks g (group_at t g) h.1.0 h.1.1))
 only t (call.Tmpfile g) _ of h = absurd h
 only t (call.OpenKey key) answer of h = key_only t (row_of t key) (call.OpenKey key) answer h
 only t (call.CloseKey key) answer of h = key_only t (row_of t key) (call.CloseKey key) answer h
@@ -216,17 +216,17 @@ one_reply t u v called first second of one other =
     let same : first ≡ second = only t called first of one.0 ∙ sym (only t called second of other.0) in
     (same, one.1 ∙ ap (after_call t called) same ∙ sym other.1)
 
-create_some : (t : Table) (g : ℕ) → g < length t.groups → (o : Option Key) → lowest_key g (prepared t.blocks g (group_of t g)) ≡ o → Permits t (call.Create g) (create_reply o)
-create_some t g low None is = (low, finds_none t.blocks g (group_of t g) is)
+create_some : (t : Table) (g : ℕ) → g < length t.groups → (o : Option Key) → lowest_key g (prepared t.blocks g (group_at t g)) ≡ o → Permits t (call.Create g) (create_reply o)
+create_some t g low None is = (low, finds_none t.blocks g (group_at t g) is)
 create_some t g low (Some key) is = (low, is)
 
-tmpfile_some : (t : Table) (g : ℕ) → g < length t.groups → (o : Option Key) → lowest_key g (prepared t.blocks g (group_of t g)) ≡ o → Permits t (call.Tmpfile g) (create_reply o)
-tmpfile_some t g low None is = (low, finds_none t.blocks g (group_of t g) is)
+tmpfile_some : (t : Table) (g : ℕ) → g < length t.groups → (o : Option Key) → lowest_key g (prepared t.blocks g (group_at t g)) ≡ o → Permits t (call.Tmpfile g) (create_reply o)
+tmpfile_some t g low None is = (low, finds_none t.blocks g (group_at t g) is)
 tmpfile_some t g low (Some key) is = (low, is)
 
 pub permitted : (t : Table) (called : Call) → IsOfTable called → CanMake t called → Permits t called (reply_of t called)
-permitted t (call.Create g) of can = create_some t g can (lowest_key g (prepared t.blocks g (group_of t g))) refl
-permitted t (call.Tmpfile g) of can = tmpfile_some t g can (lowest_key g (prepared t.blocks g (group_of t g))) refl
+permitted t (call.Create g) of can = create_some t g can (lowest_key g (prepared t.blocks g (group_at t g))) refl
+permitted t (call.Tmpfile g) of can = tmpfile_some t g can (lowest_key g (prepared t.blocks g (group_at t g))) refl
 permitted t (call.OpenKey key) of can = open_key_some t (row_of t key) key
 permitted t (call.CloseKey key) of can = key_some t (row_of t key) (call.CloseKey key) tt can
 permitted t (call.Link key) of can = key_some t (row_of t key) (call.Link key) tt can

@@ -5,7 +5,7 @@ use Rattle.life_limits.specs.declared.TheConstants.{GROUP_NUMBERS, MAX_BLOCKS, M
 use Rattle.life_table.specs.declared.table.Inode.{Inode}
 use Rattle.life_table.specs.declared.table.Table.{Table}
 use Rattle.std.proofs.lemmas.List.{length-replicate}
-use Rattle.life_table.specs.Table.{empty_table, Group, group_of, with_group, inode_of, with_inode}
+use Rattle.life_table.specs.Table.{empty_table, Group, group_at, with_group, inode_of, with_inode}
 use Rattle.life_table.specs.Legal.{prepare}
 use Rattle.life_table.specs.WellFormed.{IsInode, IsGroup, IsTable}
 use Rattle.life_table.proofs.Counts.{times-used_nil}
@@ -27,7 +27,7 @@ nth_group blocks [] g all = IsGroup-nil blocks
 nth_group blocks (group ∷ groups) zero all = all.0
 nth_group blocks (group ∷ groups) (suc g) all = nth_group blocks groups g all.1
 
-pub IsGroup-group_of : (t : Table) (g : ℕ) → IsTable t → IsGroup t.blocks (group_of t g)
+pub IsGroup-group_of : (t : Table) (g : ℕ) → IsTable t → IsGroup t.blocks (group_at t g)
 IsGroup-group_of t g ok = nth_group t.blocks t.groups g ok.groups
 
 pub IsTable-with_group : (t : Table) (g : ℕ) (group : Group) → IsTable t → IsGroup t.blocks group → IsTable (with_group t g group)
@@ -43,20 +43,20 @@ IsTable-with_group t g group ok here =
     }
 
 pub IsTable-with_inode : (t : Table) (number : ℕ) (old new : Inode) → IsTable t → inode_of t number ≡ Some old → IsInode new
-    → TakesOnlyFree t.blocks (group_of t (number / GROUP_NUMBERS)) old.row new.row → IsTable (with_inode t number new)
+    → TakesOnlyFree t.blocks (group_at t (number / GROUP_NUMBERS)) old.row new.row → IsTable (with_inode t number new)
 unfolding inode_of with_inode
 IsTable-with_inode t number old new ok at inode takes =
     let g = number / GROUP_NUMBERS in
-    IsTable-with_group t g _ ok (IsGroup-set_inode t.blocks (group_of t g) (number % GROUP_NUMBERS) old new (IsGroup-group_of t g ok) at inode takes)
+    IsTable-with_group t g _ ok (IsGroup-set_inode t.blocks (group_at t g) (number % GROUP_NUMBERS) old new (IsGroup-group_of t g ok) at inode takes)
 
 pub IsInode-of : (t : Table) (number : ℕ) (inode : Inode) → IsTable t → inode_of t number ≡ Some inode → IsInode inode
 unfolding inode_of
 IsInode-of t number inode ok at =
     let g = number / GROUP_NUMBERS in
-    IsInode-in (group_of t g) (number % GROUP_NUMBERS) inode (IsGroup-group_of t g ok).chunks at
+    IsInode-in (group_at t g) (number % GROUP_NUMBERS) inode (IsGroup-group_of t g ok).chunks at
 
 pub IsTable-prepare : (t : Table) (g : ℕ) → IsTable t → IsTable (prepare t g)
-IsTable-prepare t g ok = IsTable-with_group t g _ ok (IsGroup-prepared t.blocks g (group_of t g) (IsGroup-group_of t g ok))
+IsTable-prepare t g ok = IsTable-with_group t g _ ok (IsGroup-prepared t.blocks g (group_at t g) (IsGroup-group_of t g ok))
 
 -- a table without chunks
 empty_groups : (blocks n : ℕ) → AllByRecursion (IsGroup blocks) (replicate n [])

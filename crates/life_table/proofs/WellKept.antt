@@ -9,7 +9,7 @@ use Rattle.life_table.specs.declared.types.Entry.{Entry}
 use Rattle.life_table.specs.declared.types.Event.{Event}
 use Rattle.life_table.specs.declared.table.Inode.{Inode}
 use Rattle.life_table.specs.declared.table.Table.{Table}
-use Rattle.life_table.specs.Table.{group_number, group_of, inode_in, inode_of, row_of, in_use}
+use Rattle.life_table.specs.Table.{group_number, group_at, inode_in, inode_of, row_of, in_use}
 use Rattle.life_table.specs.Space.{times, used, row_blocks, is_free_block, prepared}
 use Rattle.life_table.specs.Legal.{prepare, IsNextKey, made_row}
 use Rattle.life_table.specs.History.{Happens, Leads}
@@ -33,9 +33,9 @@ pub record IsPrepared (t : Table) (g : ℕ) (key : Key) : Type 0 where
 pub IsPrepared-next : (t : Table) (g : ℕ) (key : Key) → IsTable t → IsNextKey t g key → IsPrepared t g key
 unfolding inode_of
 IsPrepared-next t g key ok next =
-    let found = IsFreeAt-lowest t.blocks g (prepared t.blocks g (group_of t g)) key ok.most (IsGroup-prepared t.blocks g (group_of t g) (IsGroup-group_of t g ok)) next.1 in
-    let same : group_of (prepare t g) (key.number / GROUP_NUMBERS) ≡ prepared t.blocks g (group_of t g) =
-    ap (λ h. group_of (prepare t g) h) found.group_is ∙ group_of-with_same t g (prepared t.blocks g (group_of t g)) next.0 in
+    let found = IsFreeAt-lowest t.blocks g (prepared t.blocks g (group_at t g)) key ok.most (IsGroup-prepared t.blocks g (group_at t g) (IsGroup-group_of t g ok)) next.1 in
+    let same : group_at (prepare t g) (key.number / GROUP_NUMBERS) ≡ prepared t.blocks g (group_at t g) =
+    ap (λ h. group_at (prepare t g) h) found.group_is ∙ group_of-with_same t g (prepared t.blocks g (group_at t g)) next.0 in
     record {
       inode = found.inode;
       at = ap (λ group. inode_in group (key.number % GROUP_NUMBERS)) same ∙ found.at;
@@ -50,10 +50,10 @@ row_is generation o row is ok = let P : Option Row → Type 0 = λ r. IfSome r (
 
 -- a free block is in no row
 not_used : (t : Table) (key : Key) (row : Row) (b : ℕ) → IsTable t → HasRow (inode_of t key.number) key.generation row
-    → is_free_block t.blocks (group_of t (group_number key)) b ≡ true → times b row.blocks ≡ 0
+    → is_free_block t.blocks (group_at t (group_number key)) b ≡ true → times b row.blocks ≡ 0
 unfolding inode_of
 not_used t key row b ok has free =
-    let group = group_of t (group_number key) in
+    let group = group_at t (group_number key) in
     let parts = is_free_block-parts t.blocks group b free in
     let moved = times-set_inode b group (key.number % GROUP_NUMBERS) has.inode (record { generation = 0; row = None }) has.at in
     let none = times-nil b in
@@ -78,13 +78,13 @@ IsTable-move t _ ok (Turns key row new at changes) =
     elim (changes.blocks b) [
       | inl few ↦ inl (omega (arith, same b, few))
       | inr more ↦
-          elim (cases_Bool (is_free_block t.blocks (group_of t (group_number key)) b)) [
+          elim (cases_Bool (is_free_block t.blocks (group_at t (group_number key)) b)) [
             | inl free ↦
-                let once = times-free t.blocks (group_of t (group_number key)) b free in
+                let once = times-free t.blocks (group_at t (group_number key)) b free in
                 let none = not_used t key row b ok has free in
                 inr (free, omega (arith, more, once, none))
             | inr taken ↦
-                let none = times-not_free t.blocks (group_of t (group_number key)) b taken in
+                let none = times-not_free t.blocks (group_at t (group_number key)) b taken in
                 inl (omega (arith, same b, more, none))
           ]
     ])
@@ -126,11 +126,11 @@ row_within t key row ok at =
     subst (λ n. IsRow n row) has.life old
 
 -- a row has no block oftener than its group
-row_times : (t : Table) (key : Key) (row : Row) (b : ℕ) → row_of t key ≡ Some row → times b row.blocks ≤ times b (used (group_of t (group_number key)))
+row_times : (t : Table) (key : Key) (row : Row) (b : ℕ) → row_of t key ≡ Some row → times b row.blocks ≤ times b (used (group_at t (group_number key)))
 unfolding inode_of
 row_times t key row b at =
     let has = HasRow-from (inode_of t key.number) key.generation row at in
-    let moved = times-set_inode b (group_of t (group_number key)) (key.number % GROUP_NUMBERS) has.inode (record { generation = 0; row = None }) has.at in
+    let moved = times-set_inode b (group_at t (group_number key)) (key.number % GROUP_NUMBERS) has.inode (record { generation = 0; row = None }) has.at in
     let none = times-nil b in
     let same : times b (row_blocks has.inode.row) ≡ times b row.blocks = ap (λ o. times b (row_blocks o)) has.is in
     omega (arith, moved, none, same)

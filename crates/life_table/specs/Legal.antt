@@ -9,7 +9,7 @@ use Rattle.life_table.specs.declared.types.Call.TheVariants as call
 use Rattle.life_table.specs.declared.types.Reply.{Reply}
 use Rattle.life_table.specs.declared.types.Reply.TheVariants as reply
 use Rattle.life_table.specs.declared.table.Table.{Table}
-use Rattle.life_table.specs.Table.{group_number, group_of, with_group, with_inode, row_of, with_row}
+use Rattle.life_table.specs.Table.{group_number, group_at, with_group, with_inode, row_of, with_row}
 use Rattle.life_table.specs.Space.{free_blocks, lowest_key, chunk_place, prepared}
 
 -- the row has neither a link nor a hold: it awaits being freed
@@ -18,14 +18,14 @@ Awaits row = (row.links ≡ 0) × (row.opens ≡ 0)
 
 -- the free blocks of a group of the table, and of a key's group
 abbrev pub free_in : Table → ℕ → List ℕ
-free_in t g = free_blocks t.blocks (group_of t g)
+free_in t g = free_blocks t.blocks (group_at t g)
 
 abbrev pub free_of : Table → Key → List ℕ
 free_of t key = free_in t (group_number key)
 
 -- no number of the group is free, and no chunk can be added
 abbrev pub HasNoNumber : Table → ℕ → Type 0
-HasNoNumber t g = (lowest_key g (group_of t g) ≡ None) × (chunk_place t.blocks (group_of t g) ≡ None)
+HasNoNumber t g = (lowest_key g (group_at t g) ≡ None) × (chunk_place t.blocks (group_at t g) ≡ None)
 
 -- the call lacks a number, or blocks
 abbrev pub Short : Table → Call → Type 0
@@ -48,11 +48,11 @@ last_blocks count row = drop (length row.blocks - count) row.blocks
 
 -- the table with the chunk added that a create in this group adds
 abbrev pub prepare : Table → ℕ → Table
-prepare t g = with_group t g (prepared t.blocks g (group_of t g))
+prepare t g = with_group t g (prepared t.blocks g (group_at t g))
 
 -- the key is the lowest free one of the group, after a chunk was added where none was free
 abbrev pub IsNextKey : Table → ℕ → Key → Type 0
-IsNextKey t g key = (g < length t.groups) × (lowest_key g (prepared t.blocks g (group_of t g)) ≡ Some key)
+IsNextKey t g key = (g < length t.groups) × (lowest_key g (prepared t.blocks g (group_at t g)) ≡ Some key)
 
 -- what a call on a row may be answered: a pair that stands in no line never comes
 abbrev pub RowReplies : Table → Row → Call → Reply → Type 0

@@ -9,7 +9,7 @@ use Rattle.life_table.specs.declared.types.Call.TheVariants as call
 use Rattle.life_table.specs.declared.types.Reply.{Reply}
 use Rattle.life_table.specs.declared.types.Reply.TheVariants as reply
 use Rattle.life_table.specs.declared.table.Table.{Table}
-use Rattle.life_table.specs.Table.{group_of, row_of}
+use Rattle.life_table.specs.Table.{group_at, row_of}
 use Rattle.life_table.specs.Space.{lowest_key, prepared}
 use Rattle.life_table.specs.Legal.{free_of, grown_blocks}
 
@@ -37,8 +37,8 @@ create_reply (Some key) = reply.Made key
 
 -- the reply of a call that the table answers
 abbrev pub reply_of : Table → Call → Reply
-reply_of t (call.Create g) = create_reply (lowest_key g (prepared t.blocks g (group_of t g)))
-reply_of t (call.Tmpfile g) = create_reply (lowest_key g (prepared t.blocks g (group_of t g)))
+reply_of t (call.Create g) = create_reply (lowest_key g (prepared t.blocks g (group_at t g)))
+reply_of t (call.Tmpfile g) = create_reply (lowest_key g (prepared t.blocks g (group_at t g)))
 reply_of t (call.OpenKey key) = key_reply t (row_of t key) (call.OpenKey key)
 reply_of t (call.CloseKey key) = key_reply t (row_of t key) (call.CloseKey key)
 reply_of t (call.Link key) = key_reply t (row_of t key) (call.Link key)

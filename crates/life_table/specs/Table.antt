@@ -41,8 +41,8 @@ abbrev pub group_number : Key → ℕ
 group_number key = key.number / GROUP_NUMBERS
 
 -- a group of the table; one that it does not have is without a chunk
-abbrev pub group_of : Table → ℕ → Group
-group_of t g = slice_index_or t.groups g []
+abbrev pub group_at : Table → ℕ → Group
+group_at t g = slice_index_or t.groups g []
 
 -- the table with another group at this place
 abbrev pub with_group : Table → ℕ → Group → Table
@@ -50,11 +50,11 @@ with_group t g group = record { version = t.version; blocks = t.blocks; groups =
 
 -- the inode of a number of the image, where a chunk has one
 unfoldable pub inode_of : Table → ℕ → Option Inode
-inode_of t number = inode_in (group_of t (number / GROUP_NUMBERS)) (number % GROUP_NUMBERS)
+inode_of t number = inode_in (group_at t (number / GROUP_NUMBERS)) (number % GROUP_NUMBERS)
 
 -- the table with another inode at this number
 unfoldable pub with_inode : Table → ℕ → Inode → Table
-with_inode t number inode = with_group t (number / GROUP_NUMBERS) (set_inode (group_of t (number / GROUP_NUMBERS)) (number % GROUP_NUMBERS) inode)
+with_inode t number inode = with_group t (number / GROUP_NUMBERS) (set_inode (group_at t (number / GROUP_NUMBERS)) (number % GROUP_NUMBERS) inode)
 
 -- the row of an inode, where it has one and is in the life of this generation
 abbrev pub row_in_life : ℕ → Option Inode → Option Row

@@ -30,9 +30,9 @@ pub record IsChunk (chunk : Chunk) : Type 0 where
   pub inodes : AllByRecursion IsInode chunk.inodes
 
 -- each chunk starts below all later ones
-abbrev pub Ascends : Group → Type 0
-Ascends [] = ⊤
-Ascends (chunk ∷ chunks) = AllByRecursion (λ (later : Chunk). chunk.start < later.start) chunks × Ascends chunks
+abbrev pub ChunksAscend : Group → Type 0
+ChunksAscend [] = ⊤
+ChunksAscend (chunk ∷ chunks) = AllByRecursion (λ (later : Chunk). chunk.start < later.start) chunks × ChunksAscend chunks
 
 -- a block that chunks and rows may have
 abbrev pub IsDataBlock : ℕ → ℕ → Type 0
@@ -41,7 +41,7 @@ IsDataBlock blocks block = (FIRST_DATA_BLOCK ≤ block) × (block < blocks)
 -- a group of so many blocks: no block is in two rows, in a row and a chunk, or twice in one
 pub record IsGroup (blocks : ℕ) (group : Group) : Type 0 where
   pub few : length group ≤ MAX_CHUNKS
-  pub ascends : Ascends group
+  pub ascends : ChunksAscend group
   pub chunks : AllByRecursion IsChunk group
   pub data_blocks : (block : ℕ) → 1 ≤ times block (used group) → IsDataBlock blocks block
   pub once : (block : ℕ) → times block (used group) ≤ 1

@@ -11,7 +11,7 @@ ghost use Rattle.life_table.specs.declared.types.Entry.{Entry};
 ghost use Rattle.life_table.specs.declared.types.Event.{Event};
 ghost use Rattle.life_table.specs.declared.table.Table.{Table};
 ghost use Rattle.life_limits.specs.declared.TheConstants.{MAX_BLOCKS, MAX_GROUPS, MIN_BLOCKS, VERSION};
-ghost use Rattle.life_table.specs.Table.{empty_table, group_number, group_of, inode_of, row_of};
+ghost use Rattle.life_table.specs.Table.{empty_table, group_number, group_at, inode_of, row_of};
 ghost use Rattle.life_table.specs.Space.{times};
 ghost use Rattle.life_table.specs.Legal.{Awaits, Legal, Permits, Frees, IsOpen, IsOfTable, CanMake, IsNoCut, IsNoHold, free_in, free_of, last_blocks};
 ghost use Rattle.life_table.specs.Replies.{reply_of};
@@ -55,9 +55,9 @@ pub fn holders_have_rows()
 /// that it takes away; and no other call makes a block free. So an unlinked file's blocks come back once.
 pub fn blocks_come_back_once()
     ensures free { (t u : Table) (key : Key) (row : Row) (block : ℕ) → IsTable t → Frees t key u → row_of t key ≡ Some row → times block (free_of u key) ≡ times block (free_of t key) + times block row.blocks }
-    ensures free_elsewhere { (t u : Table) (key : Key) (g : ℕ) → Frees t key u → g ≢ group_number key → group_of u g ≡ group_of t g }
+    ensures free_elsewhere { (t u : Table) (key : Key) (g : ℕ) → Frees t key u → g ≢ group_number key → group_at u g ≡ group_at t g }
     ensures cut { (t u : Table) (key : Key) (count : ℕ) (row : Row) (block : ℕ) → IsTable t → Legal t (Call.Cut key count) Reply.Done u → row_of t key ≡ Some row → times block (free_of u key) ≡ times block (free_of t key) + times block (last_blocks count row) }
-    ensures cut_elsewhere { (t u : Table) (key : Key) (count g : ℕ) → Legal t (Call.Cut key count) Reply.Done u → g ≢ group_number key → group_of u g ≡ group_of t g }
+    ensures cut_elsewhere { (t u : Table) (key : Key) (count g : ℕ) → Legal t (Call.Cut key count) Reply.Done u → g ≢ group_number key → group_at u g ≡ group_at t g }
     ensures other_calls { (t u : Table) (called : Call) (answer : Reply) (g block : ℕ) → IsTable t → Legal t called answer u → IsNoCut called → times block (free_in u g) ≤ times block (free_in t g) }
 {}
 

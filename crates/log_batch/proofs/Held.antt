@@ -16,11 +16,11 @@ use Rattle.life_bytes.specs.declared.sector.Sector.{Sector}
 use Rattle.log_record.specs.declared.image.Image.{Image}
 use Rattle.log_image.specs.Overlay.{newest}
 use Rattle.log_batch.specs.Dirty.{Matches, held}
-use Rattle.log_batch.specs.Put.{put, Rises}
+use Rattle.log_batch.specs.Put.{put, KeysRise}
 use Rattle.log_batch.specs.PutLaws.{Rises-put, put_some, rises_lower}
 use Rattle.log_batch.specs.NewestLaws.{alone, newest_rest, newest-nil, newest-put, only_newest, newest_first, newest_below, none_some, some_same, same_image}
 
-pub held-rises : (entries : List (ℕ × Sector)) → Rises (λ i. i.home) 0 (held entries)
+pub held-rises : (entries : List (ℕ × Sector)) → KeysRise (λ i. i.home) 0 (held entries)
 held-rises [] = tt
 held-rises (entry ∷ entries) = Rises-put (λ (i : Image). i.home) (record { home = entry.0; sector = entry.1 }) 0 (held entries) (held-rises entries) (omega arith)
 
@@ -59,7 +59,7 @@ held_put old new home sector same =
 abbrev pub IsLeast : ℕ → List (ℕ × Sector) → Type 0
 IsLeast home entries = (q : ℕ) (sector : Sector) → lookup (nat_eq q) entries ≡ Some sector → home ≤ q
 
-first_of_held : (low home : ℕ) (sector : Sector) (xs : List Image) → Rises (λ i. i.home) low xs → newest home xs ≡ Some sector
+first_of_held : (low home : ℕ) (sector : Sector) (xs : List Image) → KeysRise (λ i. i.home) low xs → newest home xs ≡ Some sector
     → ((q : ℕ) (s : Sector) → newest q xs ≡ Some s → home ≤ q) → (rest : List Image) × (xs ≡ (record { home = home; sector = sector }) ∷ rest)
 first_of_held low home sector [] rise is least = absurd (none_some (sym (newest-nil home) ∙ is))
 first_of_held low home sector (x ∷ xs) rise is least =
@@ -196,8 +196,8 @@ pub held_away : (old new : List (ℕ × Sector)) (home : ℕ) (sector : Sector) 
 held_away old new home sector is least same =
     let first = held_first old home sector is least in
     let image : Image = record { home = home; sector = sector } in
-    let rise : Rises (λ i. i.home) 0 (image ∷ first.0) = subst (λ (l : List Image). Rises (λ (i : Image). i.home) 0 l) first.1 (held-rises old) in
-    let rest : Rises (λ i. i.home) 0 first.0 = rises_lower (λ (i : Image). i.home) (home + 1) 0 first.0 (omega arith) rise.1 in
+    let rise : KeysRise (λ i. i.home) 0 (image ∷ first.0) = subst (λ (l : List Image). KeysRise (λ (i : Image). i.home) 0 l) first.1 (held-rises old) in
+    let rest : KeysRise (λ i. i.home) 0 first.0 = rises_lower (λ (i : Image). i.home) (home + 1) 0 first.0 (omega arith) rise.1 in
     let looks : (q : ℕ) → newest q (image ∷ first.0) ≡ lookup (nat_eq q) old = λ q. ap (newest q) (sym first.1) ∙ newest-held q old in
     only_newest 0 (held new) first.0 (held-rises new) rest (λ q. newest-held q new ∙ same q ∙ elim (cases_eq q home) [
       | inl here ↦ cond-true (nat_eq home q) None (lookup (nat_eq q) old) (eq-eqb home q (sym here)) ∙ sym (newest_below q (home + 1) first.0 rise.1 (omega arith))

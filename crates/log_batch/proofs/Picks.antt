@@ -7,7 +7,7 @@ use Rattle.log_record.specs.declared.image.Image.{Image}
 use Rattle.log_record.specs.declared.image.Commit.{Commit}
 use Rattle.log_batch.specs.declared.find.Pick.{Pick}
 use Rattle.log_batch.specs.Newest.{commit_images}
-use Rattle.log_batch.specs.Picks.{ArePicks, Names, image_at}
+use Rattle.log_batch.specs.Picks.{ArePicks, Names, picked_image}
 use Rattle.log_batch.specs.Put.{put, put_all, put_by}
 use Rattle.log_batch.specs.PutLaws.{Rises-put, All-put, map-put}
 use Rattle.log_batch.specs.NewestLaws.{put_all-append, length-put_all}
@@ -16,7 +16,7 @@ use Rattle.log_batch.specs.NewestLaws.{put_all-append, length-put_all}
 pub names : (commits : List Commit) (at i : ℕ) (commit : Commit) (images : List Image) (d : Image) → at < length commits
     → commit ≡ get_or commits at commit → images ≡ commit.images → i < length images
     → Names commits (record { home = (get_or images i d).home; commit = at; image = i })
-    × (image_at commits (record { home = (get_or images i d).home; commit = at; image = i }) ≡ get_or images i d)
+    × (picked_image commits (record { home = (get_or images i d).home; commit = at; image = i }) ≡ get_or images i d)
 names commits at i commit images d within is of inside =
     let none : Commit = record { group = 0; images = [] } in
     let blank : Image = record { home = (get_or images i d).home; sector = record { bytes = [] } } in
@@ -28,7 +28,7 @@ names commits at i commit images d within is of inside =
 -- the image of a pick
 pub named : (commits : List Commit) (pick : Pick) (commit : Commit) (images : List Image) → Names commits pick
     → commit ≡ get_or commits pick.commit commit → images ≡ commit.images
-    → (pick.image < length images) × ((d : Image) → get_or images pick.image d ≡ image_at commits pick)
+    → (pick.image < length images) × ((d : Image) → get_or images pick.image d ≡ picked_image commits pick)
 named commits pick commit images is at of =
     let none : Commit = record { group = 0; images = [] } in
     let here : (get_or commits pick.commit none).images ≡ images = ap (λ (c : Commit). c.images) (get_or_default commits pick.commit none commit is.commit ∙ sym at) ∙ sym of in
@@ -41,11 +41,11 @@ named commits pick commit images is at of =
 -- a pick that is put in its place
 pub put_one : (commits : List Commit) (picks : List Pick) (pick : Pick) → ArePicks commits picks → Names commits pick
     → ArePicks commits (put_by (λ p. p.home) pick picks)
-    × (map (image_at commits) (put_by (λ p. p.home) pick picks) ≡ put (image_at commits pick) (map (image_at commits) picks))
+    × (map (picked_image commits) (put_by (λ p. p.home) pick picks) ≡ put (picked_image commits pick) (map (picked_image commits) picks))
 put_one commits picks pick are is = (
   record { rise = Rises-put (λ (p : Pick). p.home) pick 0 picks are.rise (omega arith); names = All-put (Names commits) (λ (p : Pick). p.home) pick picks is are.names },
-  map-put (image_at commits) (λ (p : Pick). p.home) (λ (m : Image). m.home) pick picks is.home
-      (All-weaker (Names commits) (λ (p : Pick). (image_at commits p).home ≡ p.home) (λ p n. n.home) picks are.names),
+  map-put (picked_image commits) (λ (p : Pick). p.home) (λ (m : Image). m.home) pick picks is.home
+      (All-weaker (Names commits) (λ (p : Pick). (picked_image commits p).home ≡ p.home) (λ p n. n.home) picks are.names),
 )
 
 -- one commit more

@@ -5,11 +5,7 @@ use Rattle.std.specs.List.Sorted.{IsStrictlyIncreasing}
 use Rattle.life_limits.specs.declared.TheConstants.{MAX_IMAGES}
 use Rattle.log_record.specs.declared.image.Image.{Image}
 use Rattle.log_record.specs.declared.image.Commit.{Commit}
-use Rattle.log_image.specs.Overlay.{newest}
-
--- the homes of images
-abbrev pub homes : List Image → List ℕ
-homes images = map (λ image. image.home) images
+use Rattle.log_image.specs.Overlay.{newest, homes}
 
 -- the images of commits, the oldest first
 abbrev pub commit_images : List Commit → List Image

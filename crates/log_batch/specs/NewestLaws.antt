@@ -7,9 +7,9 @@ use Rattle.std.proofs.lemmas.Bool.Decides.{nat_tests}
 use Rattle.std.proofs.lemmas.List.{take_more}
 use Rattle.life_bytes.specs.declared.sector.Sector.{Sector}
 use Rattle.log_record.specs.declared.image.Image.{Image}
-use Rattle.log_image.specs.Overlay.{newest}
-use Rattle.log_batch.specs.Newest.{IsNewestOf, homes}
-use Rattle.log_batch.specs.Put.{put, put_all, Rises}
+use Rattle.log_image.specs.Overlay.{newest, homes}
+use Rattle.log_batch.specs.Newest.{IsNewestOf}
+use Rattle.log_batch.specs.Put.{put, put_all, KeysRise}
 use Rattle.log_batch.specs.PutLaws.{put_front, put_over, put_behind, Rises-put, length-put}
 
 home_of : Image → ℕ
@@ -35,14 +35,6 @@ option_or-none : {X : Type 0} (a : Option X) → option_or a None ≡ a
 option_or-none None = refl
 option_or-none (Some x) = refl
 
-pub newest-append : (home : ℕ) (xs ys : List Image) → newest home (xs ++ ys) ≡ option_or (newest home ys) (newest home xs)
-newest-append home [] ys = sym (ap (option_or (newest home ys)) (newest-nil home) ∙ option_or-none (newest home ys))
-newest-append home (x ∷ xs) ys =
-    newest-cons home x (xs ++ ys)
-    ∙ ap (λ (o : Option Sector). option_or o (alone home x)) (newest-append home xs ys)
-    ∙ option_or_assoc (newest home ys) (newest home xs) (alone home x)
-    ∙ ap (option_or (newest home ys)) (sym (newest-cons home x xs))
-
 alone_same : (home : ℕ) (image : Image) → image.home ≡ home → alone home image ≡ Some image.sector
 alone_same home image same = grind (arith, nat_tests)
 
@@ -50,7 +42,7 @@ alone_other : (home : ℕ) (image : Image) → image.home ≢ home → alone hom
 alone_other home image other = grind (arith, nat_tests)
 
 -- a list that rises has no image of a home below it
-pub newest_below : (home low : ℕ) (xs : List Image) → Rises (λ i. i.home) low xs → home < low → newest home xs ≡ None
+pub newest_below : (home low : ℕ) (xs : List Image) → KeysRise (λ i. i.home) low xs → home < low → newest home xs ≡ None
 newest_below home low [] rise below = newest-nil home
 newest_below home low (x ∷ xs) rise below =
     newest-cons home x xs
@@ -63,7 +55,7 @@ either_way a b (inl none) = rw none (sym (option_or-none b))
 either_way a b (inr none) = rw none (option_or-none a)
 
 -- an image in front of greater homes
-newest_front : (home : ℕ) (image : Image) (low : ℕ) (xs : List Image) → Rises (λ i. i.home) low xs → image.home < low
+newest_front : (home : ℕ) (image : Image) (low : ℕ) (xs : List Image) → KeysRise (λ i. i.home) low xs → image.home < low
     → newest home (image ∷ xs) ≡ option_or (alone home image) (newest home xs)
 newest_front home image low xs rise below =
     newest-cons home image xs
@@ -73,7 +65,7 @@ newest_front home image low xs rise below =
     ]
 
 -- an image over one of the same home
-newest_over : (home : ℕ) (image y : Image) (ys : List Image) → Rises (λ i. i.home) (y.home + 1) ys → image.home ≡ y.home
+newest_over : (home : ℕ) (image y : Image) (ys : List Image) → KeysRise (λ i. i.home) (y.home + 1) ys → image.home ≡ y.home
     → newest home (image ∷ ys) ≡ option_or (alone home image) (newest home (y ∷ ys))
 newest_over home image y ys rise same =
     newest_front home image (y.home + 1) ys rise (omega arith)
@@ -89,7 +81,7 @@ newest_over home image y ys rise same =
     ]
 
 -- an image that is put in its place is the newest of its home
-pub newest-put : (home : ℕ) (image : Image) (low : ℕ) (xs : List Image) → Rises (λ i. i.home) low xs
+pub newest-put : (home : ℕ) (image : Image) (low : ℕ) (xs : List Image) → KeysRise (λ i. i.home) low xs
     → newest home (put image xs) ≡ option_or (alone home image) (newest home xs)
 newest-put home image low [] rise =
     newest-cons home image [] ∙ ap (λ (o : Option Sector). option_or o (alone home image)) (newest-nil home)
@@ -121,11 +113,11 @@ pub put_more : (images : List Image) (i : ℕ) (d : Image) (into : List Image) �
 put_more images i d into within =
     ap (λ (xs : List Image). put_all xs into) (take_more images i d within) ∙ put_all-append (take i images) (get_or images i d ∷ []) into
 
-pub Rises-put_all : (images into : List Image) → Rises (λ i. i.home) 0 into → Rises (λ i. i.home) 0 (put_all images into)
+pub Rises-put_all : (images into : List Image) → KeysRise (λ i. i.home) 0 into → KeysRise (λ i. i.home) 0 (put_all images into)
 Rises-put_all [] into rise = rise
 Rises-put_all (x ∷ xs) into rise = Rises-put_all xs (put x into) (Rises-put (λ i. i.home) x 0 into rise (omega arith))
 
-pub newest-put_all : (home : ℕ) (images into : List Image) → Rises (λ i. i.home) 0 into
+pub newest-put_all : (home : ℕ) (images into : List Image) → KeysRise (λ i. i.home) 0 into
     → newest home (put_all images into) ≡ option_or (newest home images) (newest home into)
 newest-put_all home [] into rise = sym (ap (λ (o : Option Sector). option_or o (newest home into)) (newest-nil home))
 newest-put_all home (x ∷ xs) into rise =
@@ -161,19 +153,19 @@ ascending_more x y ys below up (suc k) h =
     subst P (sym (next k)) (up k (omega arith))
 
 -- homes that ascend rise, and the other way round
-pub rises_from_ascending : (low : ℕ) (xs : List Image) → (0 < length xs → low ≤ get_or (homes xs) 0 0) → IsStrictlyIncreasing (homes xs) → Rises (λ i. i.home) low xs
+pub rises_from_ascending : (low : ℕ) (xs : List Image) → (0 < length xs → low ≤ get_or (homes xs) 0 0) → IsStrictlyIncreasing (homes xs) → KeysRise (λ i. i.home) low xs
 rises_from_ascending low [] first up = tt
 rises_from_ascending low (x ∷ []) first up = (first (omega arith), tt)
 rises_from_ascending low (x ∷ (y ∷ ys)) first up =
     (first (omega arith), rises_from_ascending (x.home + 1) (y ∷ ys) (λ some. omega (arith, up 0 (omega arith))) (ascending_rest x (y ∷ ys) up))
 
-pub ascending_from_rises : (low : ℕ) (xs : List Image) → Rises (λ i. i.home) low xs → IsStrictlyIncreasing (homes xs)
+pub ascending_from_rises : (low : ℕ) (xs : List Image) → KeysRise (λ i. i.home) low xs → IsStrictlyIncreasing (homes xs)
 ascending_from_rises low [] rise k h = absurd (omega arith)
 ascending_from_rises low (x ∷ []) rise k h = absurd (omega arith)
 ascending_from_rises low (x ∷ (y ∷ ys)) rise k h =
     ascending_more x y ys (omega (arith, rise.1.0)) (ascending_from_rises (x.home + 1) (y ∷ ys) rise.1) k h
 
-pub rises_from : (xs : List Image) → IsStrictlyIncreasing (homes xs) → Rises (λ i. i.home) 0 xs
+pub rises_from : (xs : List Image) → IsStrictlyIncreasing (homes xs) → KeysRise (λ i. i.home) 0 xs
 rises_from xs up = rises_from_ascending 0 xs (λ some. omega arith) up
 
 -- images put in their places are the newest ones
@@ -186,7 +178,7 @@ put_all_is_newest images = record {
 -- ---- only one list has the newest images
 
 -- the first of a list that rises is the newest of its home
-pub newest_first : (low : ℕ) (x : Image) (xs : List Image) → Rises (λ i. i.home) low (x ∷ xs) → newest x.home (x ∷ xs) ≡ Some x.sector
+pub newest_first : (low : ℕ) (x : Image) (xs : List Image) → KeysRise (λ i. i.home) low (x ∷ xs) → newest x.home (x ∷ xs) ≡ Some x.sector
 newest_first low x xs rise =
     newest-cons x.home x xs
     ∙ ap (λ (o : Option Sector). option_or o (alone x.home x)) (newest_below x.home (x.home + 1) xs rise.1 (omega arith))
@@ -201,7 +193,7 @@ pub none_some : {X : Type 0} {x : X} → None ≡ Some x → ⊥
 none_some same = cc
 
 -- a home of which there is a newest image is not below the first
-not_below_first : (low : ℕ) (x y : Image) (xs ys : List Image) → Rises (λ i. i.home) low (x ∷ xs) → Rises (λ i. i.home) low (y ∷ ys)
+not_below_first : (low : ℕ) (x y : Image) (xs ys : List Image) → KeysRise (λ i. i.home) low (x ∷ xs) → KeysRise (λ i. i.home) low (y ∷ ys)
     → ((home : ℕ) → newest home (x ∷ xs) ≡ newest home (y ∷ ys)) → y.home ≤ x.home
 not_below_first low x y xs ys rise other same =
     elim (cases_lt x.home y.home) [
@@ -219,7 +211,7 @@ same_image x y home sector =
 pub some_same : {X : Type 0} {x y : X} → Some x ≡ Some y → x ≡ y
 some_same same = cc
 
-pub only_newest : (low : ℕ) (xs ys : List Image) → Rises (λ i. i.home) low xs → Rises (λ i. i.home) low ys
+pub only_newest : (low : ℕ) (xs ys : List Image) → KeysRise (λ i. i.home) low xs → KeysRise (λ i. i.home) low ys
     → ((home : ℕ) → newest home xs ≡ newest home ys) → xs ≡ ys
 only_newest low [] [] rise other same = refl
 only_newest low [] (y ∷ ys) rise other same = absurd (none_some (sym (newest-nil y.home) ∙ same y.home ∙ newest_first low y ys other))

@@ -17,9 +17,9 @@ put_all [] into = into
 put_all (image ∷ images) into = put_all images (put image into)
 
 -- the keys ascend from a number on
-abbrev pub Rises : {X : Type 0} → (X → ℕ) → ℕ → List X → Type 0
-Rises key low [] = Unit {0}
-Rises key low (x ∷ xs) = (low ≤ key x) × Rises key (key x + 1) xs
+abbrev pub KeysRise : {X : Type 0} → (X → ℕ) → ℕ → List X → Type 0
+KeysRise key low [] = Unit {0}
+KeysRise key low (x ∷ xs) = (low ≤ key x) × KeysRise key (key x + 1) xs
 
 -- the element at a place has the key
 pub record IsAt {X : Type 0} (key : X → ℕ) (xs : List X) (wanted at : ℕ) : Type 0 where

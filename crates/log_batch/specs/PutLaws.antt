@@ -8,7 +8,7 @@ use Rattle.std.specs.Prelude.{Result, Ok, Err, MatchResult}
 use Rattle.std.specs.List.Sorted.{IsSearchInRange, IsBinarySearchResult, IsNonDecreasingBy}
 use Rattle.std.specs.Ordering.{nat_cmp, ordering_index}
 use Rattle.std.proofs.lemmas.Cmp.{ranked}
-use Rattle.log_batch.specs.Put.{put_by, IsAt, IsGap, Rises}
+use Rattle.log_batch.specs.Put.{put_by, IsAt, IsGap, KeysRise}
 
 pub put_front : {X : Type 0} (key : X → ℕ) (x y : X) (ys : List X) → key x < key y → put_by key x (y ∷ ys) ≡ x ∷ (y ∷ ys)
 put_front key x y ys below = grind (arith, nat_tests)
@@ -20,18 +20,18 @@ pub put_behind : {X : Type 0} (key : X → ℕ) (x y : X) (ys : List X) → key 
 put_behind key x y ys above = grind (arith, nat_tests)
 
 -- the keys of a list that rises from a number on are not below it
-rises_at : {X : Type 0} (key : X → ℕ) (low : ℕ) (xs : List X) (i : ℕ) (d : X) → Rises key low xs → i < length xs → low ≤ key (get_or xs i d)
+rises_at : {X : Type 0} (key : X → ℕ) (low : ℕ) (xs : List X) (i : ℕ) (d : X) → KeysRise key low xs → i < length xs → low ≤ key (get_or xs i d)
 rises_at key low [] i d rise within = absurd (omega arith)
 rises_at key low (x ∷ xs) zero d rise within = rise.0
 rises_at key low (x ∷ xs) (suc i) d rise within = let above = rises_at key (key x + 1) xs i d rise.1 (omega arith) in omega (arith, rise.0)
 
 -- a list that rises from a number on rises from a lower one
-pub rises_lower : {X : Type 0} (key : X → ℕ) (low lower : ℕ) (xs : List X) → lower ≤ low → Rises key low xs → Rises key lower xs
+pub rises_lower : {X : Type 0} (key : X → ℕ) (low lower : ℕ) (xs : List X) → lower ≤ low → KeysRise key low xs → KeysRise key lower xs
 rises_lower key low lower [] le rise = tt
 rises_lower key low lower (x ∷ xs) le rise = (omega (arith, rise.0), rise.1)
 
 -- a write over the element of the same key
-pub put-set : {X : Type 0} (key : X → ℕ) (x : X) (low : ℕ) (xs : List X) (i : ℕ) (d : X) → Rises key low xs → i < length xs
+pub put-set : {X : Type 0} (key : X → ℕ) (x : X) (low : ℕ) (xs : List X) (i : ℕ) (d : X) → KeysRise key low xs → i < length xs
     → key (get_or xs i d) ≡ key x → set xs i x ≡ put_by key x xs
 put-set key x low [] i d rise within same = absurd (omega arith)
 put-set key x low (y ∷ ys) zero d rise within same = sym (put_over key x y ys (sym same))
@@ -51,7 +51,7 @@ put-insert key x (y ∷ ys) (suc i) d within below above =
     ∙ sym (put_behind key x y ys (below 0 (omega arith)))
 
 -- the list still rises
-pub Rises-put : {X : Type 0} (key : X → ℕ) (x : X) (low : ℕ) (xs : List X) → Rises key low xs → low ≤ key x → Rises key low (put_by key x xs)
+pub Rises-put : {X : Type 0} (key : X → ℕ) (x : X) (low : ℕ) (xs : List X) → KeysRise key low xs → low ≤ key x → KeysRise key low (put_by key x xs)
 Rises-put key x low [] rise le = (le, tt)
 Rises-put key x low (y ∷ ys) rise le =
     elim (cases_lt (key x) (key y)) [
@@ -113,7 +113,7 @@ map-put f key other x (y ∷ ys) one all =
 -- ---- searches
 
 -- the keys of a list that rises do not fall
-rises_along : {X : Type 0} (key : X → ℕ) (low : ℕ) (xs : List X) (i j : ℕ) (d : X) → Rises key low xs → i ≤ j → j < length xs
+rises_along : {X : Type 0} (key : X → ℕ) (low : ℕ) (xs : List X) (i j : ℕ) (d : X) → KeysRise key low xs → i ≤ j → j < length xs
     → key (get_or xs i d) ≤ key (get_or xs j d)
 rises_along key low [] i j d rise le within = absurd (omega arith)
 rises_along key low (x ∷ xs) zero zero d rise le within = omega arith
@@ -121,12 +121,12 @@ rises_along key low (x ∷ xs) zero (suc j) d rise le within = let above = rises
 rises_along key low (x ∷ xs) (suc i) zero d rise le within = absurd (omega arith)
 rises_along key low (x ∷ xs) (suc i) (suc j) d rise le within = rises_along key (key x + 1) xs i j d rise.1 (omega arith) (omega arith)
 
-comparisons_rise : {X : Type 0} (key : X → ℕ) (xs : List X) (k : ℕ) → Rises key 0 xs → IsNonDecreasingBy (λ x. ordering_index (nat_cmp (key x) k)) xs
+comparisons_rise : {X : Type 0} (key : X → ℕ) (xs : List X) (k : ℕ) → KeysRise key 0 xs → IsNonDecreasingBy (λ x. ordering_index (nat_cmp (key x) k)) xs
 comparisons_rise key xs k rise i j d le within =
     let up = rises_along key 0 xs i j d rise le within in grind (arith, nat_tests)
 
 -- a binary search by key ends at the key, or at the gap for it
-pub searched : {X : Type 0} (key : X → ℕ) (xs : List X) (k : ℕ) (r : Result ℕ ℕ) → Rises key 0 xs → IsSearchInRange r (length xs)
+pub searched : {X : Type 0} (key : X → ℕ) (xs : List X) (k : ℕ) (r : Result ℕ ℕ) → KeysRise key 0 xs → IsSearchInRange r (length xs)
     → IsBinarySearchResult (λ x. nat_cmp (key x) k) xs r → MatchResult r (IsAt key xs k) (IsGap key xs k)
 searched key xs k (Ok at) rise within equal = record { within = within; same = λ d. ranked _ k _ (sym (equal d)) }
 searched key xs k (Err at) rise within parted =

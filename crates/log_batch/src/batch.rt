@@ -5,7 +5,7 @@ ghost use Rattle.life_limits.specs.declared.TheConstants.{MAX_IMAGES};
 ghost use Rattle.log_record.specs.declared.image.Commit.{Commit};
 ghost use Rattle.log_record.specs.declared.image.Image.{Image};
 ghost use Rattle.log_batch.specs.Newest.{IsBatch, IsCommit, commit_images};
-ghost use Rattle.log_batch.specs.Picks.{ArePicks, image_at};
+ghost use Rattle.log_batch.specs.Picks.{ArePicks, picked_image};
 ghost use Rattle.log_batch.specs.Put.{put_all};
 
 use crate::find::{Pick, put_pick};
@@ -23,8 +23,8 @@ fn put_commit(picks: &mut Vec<Pick>, commits: &VecDeque<Commit>, at: usize)
     requires commits { All IsCommit commits.now.items }
     requires room { vec_len picks.old + MAX_IMAGES ≤ vec_capacity picks.old }
     ensures picks { ArePicks commits.now.items picks.new.items }
-    ensures put { (d : Commit) → map (image_at commits.now.items) picks.new.items
-        ≡ put_all (slice_index_or commits.now.items at d).images (map (image_at commits.now.items) picks.old.items) }
+    ensures put { (d : Commit) → map (picked_image commits.now.items) picks.new.items
+        ≡ put_all (slice_index_or commits.now.items at d).images (map (picked_image commits.now.items) picks.old.items) }
     ensures size { vec_len picks.new ≤ vec_len picks.old + MAX_IMAGES }
     ensures capacity { vec_capacity picks.new ≡ vec_capacity picks.old }
 {
@@ -49,7 +49,7 @@ fn pick_first(picks: &mut Vec<Pick>, commits: &VecDeque<Commit>, taken: usize)
     requires room { 2 * MAX_IMAGES ≤ vec_capacity picks.old }
     requires few { length (put_all (commit_images (take taken commits.now.items)) []) ≤ MAX_IMAGES }
     ensures picks { ArePicks commits.now.items picks.new.items }
-    ensures put { map (image_at commits.now.items) picks.new.items ≡ put_all (commit_images (take taken commits.now.items)) [] }
+    ensures put { map (picked_image commits.now.items) picks.new.items ≡ put_all (commit_images (take taken commits.now.items)) [] }
     ensures capacity { vec_capacity picks.new ≡ vec_capacity picks.old }
 {
     picks.clear();
@@ -63,7 +63,7 @@ fn pick_most(picks: &mut Vec<Pick>, commits: &VecDeque<Commit>) -> u32
     requires commits { All IsCommit commits.now.items }
     requires room { 2 * MAX_IMAGES ≤ vec_capacity picks.old }
     ensures picks { ArePicks commits.now.items picks.new.items }
-    ensures put { map (image_at commits.now.items) picks.new.items ≡ put_all (commit_images (take result commits.now.items)) [] }
+    ensures put { map (picked_image commits.now.items) picks.new.items ≡ put_all (commit_images (take result commits.now.items)) [] }
     ensures within { result ≤ length commits.now.items }
     ensures few { vec_len picks.new ≤ MAX_IMAGES }
     ensures longest { result < length commits.now.items → result < 2 ^ 32 - 1
@@ -86,7 +86,7 @@ fn pick_most(picks: &mut Vec<Pick>, commits: &VecDeque<Commit>) -> u32
 fn copy_images(picks: &[Pick], commits: &VecDeque<Commit>, into: &mut Vec<Image>)
     requires picks { ArePicks commits.now.items picks.now }
     requires room { length picks.now ≤ vec_capacity into.old }
-    ensures images { into.new.items ≡ map (image_at commits.now.items) picks.now }
+    ensures images { into.new.items ≡ map (picked_image commits.now.items) picks.now }
     ensures capacity { vec_capacity into.new ≡ vec_capacity into.old }
 {
     into.clear();

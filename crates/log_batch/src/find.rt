@@ -1,6 +1,6 @@
 // The places of images, by the sector that they belong to.
 ghost use Rattle.std.specs.Prelude.{◌≡◌, ◌<◌, MatchResult, vec_len, vec_capacity};
-ghost use Rattle.log_batch.specs.Put.{IsAt, IsGap, Rises, put_by};
+ghost use Rattle.log_batch.specs.Put.{IsAt, IsGap, KeysRise, put_by};
 
 /// Where an image stands: the sector that it belongs to, the place of its commit, and its place there.
 #[derive(Clone, Copy)]
@@ -12,7 +12,7 @@ pub(crate) struct Pick {
 
 /// Where the pick of a home is, or where it would go.
 fn find(picks: &[Pick], home: u64) -> Result<usize, usize>
-    requires { Rises (λ p. p.home) 0 picks.now }
+    requires { KeysRise (λ p. p.home) 0 picks.now }
     ensures { MatchResult result (IsAt (λ p. p.home) picks.now home) (IsGap (λ p. p.home) picks.now home) }
 {
     picks.binary_search_by_key(&home, |pick| pick.home)
@@ -20,7 +20,7 @@ fn find(picks: &[Pick], home: u64) -> Result<usize, usize>
 
 /// Puts a pick in its place, over one of the same home.
 pub(crate) fn put_pick(picks: &mut Vec<Pick>, pick: Pick)
-    requires order { Rises (λ p. p.home) 0 picks.old.items }
+    requires order { KeysRise (λ p. p.home) 0 picks.old.items }
     requires room { vec_len picks.old < vec_capacity picks.old }
     ensures put { picks.new.items ≡ put_by (λ p. p.home) pick picks.old.items }
     ensures capacity { vec_capacity picks.new ≡ vec_capacity picks.old }

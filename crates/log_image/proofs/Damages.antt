@@ -4,7 +4,7 @@ use Rattle.life_bytes.specs.declared.sector.Sector.{Sector}
 use Rattle.log_record.specs.declared.record.LogRecord.{LogRecord}
 use Rattle.log_record.specs.Whole.{IsWholeAt}
 use Rattle.log_image.specs.Damage.{IsLogDamage, LogBreaks, LogBreaksFirst}
-use Rattle.log_image.specs.Log.{HasLog, HasNoLast, IsLast, IsLog, IsLogTo, Log, end_of, ring_part}
+use Rattle.log_image.specs.Log.{HasLog, HasNoLast, IsLast, IsLog, IsLogTo, Log, record_end, ring_part}
 use Rattle.log_image.proofs.Parts.{anchor-unique}
 use Rattle.log_image.proofs.TornRing.{WholeLaws}
 
@@ -31,7 +31,7 @@ log_whole laws ring anchor position next log s has (inl (item, is, denied, at)) 
 log_whole laws ring anchor position next log s has (inr (end, place, ends, within, named, reaches)) =
     let same : end ≡ log.end = elim ends [
       | inl last ↦ elim has.records [
-        | inl right ↦ last.2 ∙ ap (λ (r : LogRecord). end_of r) (last_one laws ring position last.0 right.0 last.1 right.1) ∙ sym right.2.end.0
+        | inl right ↦ last.2 ∙ ap (λ (r : LogRecord). record_end r) (last_one laws ring position last.0 right.0 last.1 right.1) ∙ sym right.2.end.0
         | inr empty ↦ absurd (last_or_none ring position last.0 last.1 empty.0)
       ]
       | inr absent ↦ elim has.records [

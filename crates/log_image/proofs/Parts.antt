@@ -4,7 +4,7 @@ use Rattle.std.proofs.lemmas.List.{get_or-take, get_or-drop, length-take, length
 use Rattle.std.proofs.lemmas.Option.{slice_get-get_or, slice_get_within, get_or_from_slice_get, same_Some}
 use Rattle.life_bytes.specs.declared.sector.Sector.{Sector}
 use Rattle.life_bytes.specs.Fields.{field}
-use Rattle.life_bytes.specs.TableLaws.{sealed_number, AreRows}
+use Rattle.life_bytes.specs.TableLaws.{sealed_number, AreFields}
 use Rattle.log_image.specs.Anchor.{HasAnchor, anchor_rows, anchor_sector}
 use Rattle.log_image.specs.Log.{groups_part, ring_part}
 
@@ -50,7 +50,7 @@ same_ring old new anchor ring size same =
 
 -- ---- an anchor's numbers
 
-anchor_is_rows : (position next : ℕ) → AreRows 512 (anchor_rows position next)
+anchor_is_rows : (position next : ℕ) → AreFields 512 (anchor_rows position next)
 anchor_is_rows position next = ((omega arith, refl), ((omega arith, refl), ((omega arith, refl), tt)))
 
 pub anchor_position : (position next : ℕ) → position < 2 ^ 64 → field 8 8 (anchor_sector position next).bytes ≡ position

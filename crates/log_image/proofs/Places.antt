@@ -7,7 +7,7 @@ use Rattle.byteorder.specs.Endian.{big_bytes}
 use Rattle.life_bytes.specs.Fields.{field}
 use Rattle.life_bytes.specs.TableLaws.{number_at}
 use Rattle.log_record.specs.declared.record.LogRecord.{LogRecord}
-use Rattle.log_record.specs.Encoding.{IsRecord, payload, sector_at, sector_count, stamps}
+use Rattle.log_record.specs.Encoding.{IsRecord, payload, record_sector, sector_count, stamps}
 
 -- the sectors of a record
 abbrev pub count_of : LogRecord → ℕ
@@ -49,26 +49,26 @@ find_place position n x (suc k) = elim (find_place position n x k) [
 ]
 
 -- the first bytes of a record's sector
-sector_bytes : (item : LogRecord) (i : ℕ) → (sector_at item i).bytes
+sector_bytes : (item : LogRecord) (i : ℕ) → (record_sector item i).bytes
     ≡ big_bytes 8 (item.position + i) ++ (big_bytes 8 item.position ++ take 496 (drop (496 * i) (payload item)))
-unfolding sector_at stamps
+unfolding record_sector stamps
 sector_bytes item i = append_assoc (big_bytes 8 (item.position + i)) (big_bytes 8 item.position) (take 496 (drop (496 * i) (payload item)))
 
 -- a record's sector begins with its own position
-pub own_position : (item : LogRecord) (i : ℕ) → IsRecord item → i < count_of item → field 8 0 (sector_at item i).bytes ≡ item.position + i
+pub own_position : (item : LogRecord) (i : ℕ) → IsRecord item → i < count_of item → field 8 0 (record_sector item i).bytes ≡ item.position + i
 own_position item i form within =
     let small : item.position + i < 2 ^ 64 = omega (arith, form.positions) in
     let rest = big_bytes 8 item.position ++ take 496 (drop (496 * i) (payload item)) in
-    number_at 8 0 (item.position + i) (sector_at item i).bytes small
+    number_at 8 0 (item.position + i) (record_sector item i).bytes small
     (ap (λ (l : List ℕ). take 8 l) (sector_bytes item i) ∙ take_at (big_bytes 8 (item.position + i)) rest 8 refl)
 
 -- and then has the record's
-pub first_position : (item : LogRecord) (i : ℕ) → IsRecord item → field 8 8 (sector_at item i).bytes ≡ item.position
+pub first_position : (item : LogRecord) (i : ℕ) → IsRecord item → field 8 8 (record_sector item i).bytes ≡ item.position
 first_position item i form =
     let some = some_sector item in
     let small : item.position < 2 ^ 64 = omega (arith, form.positions) in
     let rest = take 496 (drop (496 * i) (payload item)) in
     let behind = big_bytes 8 item.position ++ rest in
-    number_at 8 8 item.position (sector_at item i).bytes small
+    number_at 8 8 item.position (record_sector item i).bytes small
     (ap (λ (l : List ℕ). take 8 (drop 8 l)) (sector_bytes item i)
     ∙ ap (λ (l : List ℕ). take 8 l) (drop_at (big_bytes 8 (item.position + i)) behind 8 refl) ∙ take_at (big_bytes 8 item.position) rest 8 refl)

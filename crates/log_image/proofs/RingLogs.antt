@@ -5,9 +5,9 @@ use Rattle.std.proofs.lemmas.List.Elements.{All-push}
 use Rattle.life_bytes.specs.Fields.{field}
 use Rattle.life_bytes.specs.declared.sector.Sector.{Sector}
 use Rattle.log_record.specs.declared.record.LogRecord.{LogRecord}
-use Rattle.log_record.specs.Encoding.{sector_at}
+use Rattle.log_record.specs.Encoding.{record_sector}
 use Rattle.log_record.specs.Whole.{IsWholeAt, at_place}
-use Rattle.log_image.specs.Log.{AreBelow, HasLog, IsChain, IsGroupImage, IsLast, IsLogTo, Log, empty_log, end_of, next_of}
+use Rattle.log_image.specs.Log.{AreBelow, HasLog, IsRecordChain, IsGroupImage, IsLast, IsLogTo, Log, empty_log, record_end, next_of}
 use Rattle.log_image.specs.Step.{cover_of, covered, with_record}
 use Rattle.log_image.proofs.Places.{count_of, some_sector, own_position}
 use Rattle.log_image.proofs.TornRing.{WholeLaws, IsTornRing, begins_before, whole_before, item_whole}
@@ -25,7 +25,7 @@ pub record Bounds (ring : List Sector) (position : ℕ) (log : Log) : Type 0 whe
 pub bounds_to : (ring : List Sector) (anchor position next : ℕ) (last : LogRecord) (log : Log) → IsLast ring position last → IsLogTo ring anchor last log
     → Bounds ring position log
 bounds_to ring anchor position next last log is to =
-    let end : log.end ≡ end_of last = to.end.0 in
+    let end : log.end ≡ record_end last = to.end.0 in
     let chain = chain-bounds ring log.tail to.chain.0 log.records log.end log.next to.chain.2 in
     record {
       ordered = chain.0;
@@ -60,7 +60,7 @@ bounds ring anchor position next log low some high has = elim (has.records) [
 
 -- no sector reaches a record's end
 reaches_less : (old new : List Sector) (item : LogRecord) (place : ℕ) (d : Sector) → IsTornRing old new item → place < length new
-    → field 8 0 (get_or new place d).bytes < end_of item
+    → field 8 0 (get_or new place d).bytes < record_end item
 reaches_less old new item place d torn within =
     let inside : place < length old = omega (arith, torn.size) in
     let some = some_sector item in
@@ -74,7 +74,7 @@ reaches_less old new item place d torn within =
           omega (arith, of.1)
     ]
 
-pub torn_below : (old new : List Sector) (item : LogRecord) → IsTornRing old new item → AreBelow new (end_of item)
+pub torn_below : (old new : List Sector) (item : LogRecord) → IsTornRing old new item → AreBelow new (record_end item)
 torn_below old new item torn = record { each = λ place d within. reaches_less old new item place d torn within }
 
 below_more : (ring : List Sector) (low high : ℕ) → low ≤ high → AreBelow ring low → AreBelow ring high
@@ -105,7 +105,7 @@ before_item laws old new item other torn not_whole is = elim (begins_before laws
 ]
 
 same_to : (laws : WholeLaws) (old new : List Sector) (item : LogRecord) (anchor : ℕ) (last : LogRecord) (log : Log)
-    → IsTornRing old new item → item.position ≡ log.end → end_of item - log.tail ≤ length old → IsLogTo old anchor last log → IsLogTo new anchor last log
+    → IsTornRing old new item → item.position ≡ log.end → record_end item - log.tail ≤ length old → IsLogTo old anchor last log → IsLogTo new anchor last log
 same_to laws old new item anchor last log torn at room to = record {
   tail = to.tail;
   end = to.end;
@@ -115,11 +115,11 @@ same_to laws old new item anchor last log torn at room to = record {
 }
 
 same_last : (laws : WholeLaws) (old new : List Sector) (item : LogRecord) (anchor position : ℕ) (last : LogRecord) (log : Log)
-    → IsTornRing old new item → item.position ≡ log.end → end_of item - log.tail ≤ length old → NotWhole new item
+    → IsTornRing old new item → item.position ≡ log.end → record_end item - log.tail ≤ length old → NotWhole new item
     → IsLast old position last → IsLogTo old anchor last log → IsLast new position last
 same_last laws old new item anchor position last log torn at room not_whole is to =
     let tail : log.tail ≡ last.tail = to.tail in
-    let end : log.end ≡ end_of last = to.end.0 in
+    let end : log.end ≡ record_end last = to.end.0 in
     let low : last.tail ≤ last.position = is.whole.form.tail in
     record {
       whole = Rattle.log_image.proofs.TornRing.kept laws old new item log.tail last.position last torn room (omega arith) (omega arith) is.whole;
@@ -128,7 +128,7 @@ same_last laws old new item anchor position last log torn at room not_whole is t
     }
 
 pub log_same : (laws : WholeLaws) (old new : List Sector) (item : LogRecord) (anchor position next : ℕ) (log : Log) → Bounds old position log
-    → IsTornRing old new item → item.position ≡ log.end → end_of item - log.tail ≤ length old → NotWhole new item
+    → IsTornRing old new item → item.position ≡ log.end → record_end item - log.tail ≤ length old → NotWhole new item
     → HasLog old anchor position next log → HasLog new anchor position next log
 log_same laws old new item anchor position next log within torn at room not_whole has = record {
   records = elim (has.records) [
@@ -139,17 +139,17 @@ log_same laws old new item anchor position next log within torn at room not_whol
     )
     | inr empty ↦ inr (λ other whole. empty.0 other (before_item laws old new item other torn not_whole whole), empty.1)
   ];
-  below = below_more new (end_of item) (log.end + length new) (omega (arith, torn.size, within.ordered)) (torn_below old new item torn);
+  below = below_more new (record_end item) (log.end + length new) (omega (arith, torn.size, within.ordered)) (torn_below old new item torn);
 }
 
 -- ---- the log has the record
 
 abbrev AllWritten : List Sector → LogRecord → Type 0
-AllWritten ring item = (i : ℕ) (d : Sector) → i < count_of item → at_place ring (item.position + i) d ≡ sector_at item i
+AllWritten ring item = (i : ℕ) (d : Sector) → i < count_of item → at_place ring (item.position + i) d ≡ record_sector item i
 
 -- the chain up to a log's end, and the homes of its images
 record Chained (ring : List Sector) (anchor : ℕ) (log : Log) : Type 0 where
-  chain : (first : ℕ) × (1 ≤ first) × IsChain ring log.tail first log.records log.end log.next
+  chain : (first : ℕ) × (1 ≤ first) × IsRecordChain ring log.tail first log.records log.end log.next
   homes : All (λ item. All (IsGroupImage anchor) item.images) log.records
 
 chained_empty : (ring : List Sector) (anchor position next : ℕ) → 1 ≤ next → Chained ring anchor (empty_log position next)
@@ -169,9 +169,9 @@ pub record FitsLog (ring : ℕ) (anchor : ℕ) (log : Log) (item : LogRecord) : 
   pub position : item.position ≡ log.end
   pub first : item.first ≡ log.next
   pub tail : item.tail ≡ log.tail
-  pub room : end_of item - log.tail ≤ ring
+  pub room : record_end item - log.tail ≤ ring
   pub homes : All (IsGroupImage anchor) item.images
-  pub end : end_of item < 2 ^ 64
+  pub end : record_end item < 2 ^ 64
   pub next : next_of item < 2 ^ 64
 
 with_to : (laws : WholeLaws) (old new : List Sector) (item : LogRecord) (anchor : ℕ) (log : Log) → IsTornRing old new item
@@ -193,7 +193,7 @@ pub log_more : (laws : WholeLaws) (old new : List Sector) (item : LogRecord) (an
     → HasLog old anchor position next log → HasLog new anchor position next (with_record log item)
 log_more laws old new item anchor position next log within some torn fits all has =
     let at : item.position ≡ log.end = fits.position in
-    let room : end_of item - item.tail ≤ length old = omega (arith, fits.room, fits.tail) in
+    let room : record_end item - item.tail ≤ length old = omega (arith, fits.room, fits.tail) in
     let whole = item_whole old new item torn room all in
     record {
       records = inl (
@@ -201,7 +201,7 @@ log_more laws old new item anchor position next log within some torn fits all ha
         item_last laws old new item position torn (omega (arith, within.from)) whole,
         with_to laws old new item anchor log torn fits whole (chained old anchor position next log some has),
       );
-      below = below_more new (end_of item) (end_of item + length new) (omega arith) (torn_below old new item torn);
+      below = below_more new (record_end item) (record_end item + length new) (omega arith) (torn_below old new item torn);
     }
 
 -- ---- the log is the cover alone
@@ -209,7 +209,7 @@ log_more laws old new item anchor position next log within some torn fits all ha
 cover_to : (new : List Sector) (anchor : ℕ) (log : Log) → log.end + 1 < 2 ^ 64 → 1 ≤ log.next → log.next < 2 ^ 64
     → IsWholeAt new log.end (cover_of log) → IsLogTo new anchor (cover_of log) (covered log)
 cover_to new anchor log small some low whole =
-    let end : log.end + 1 ≡ end_of (cover_of log) = refl in
+    let end : log.end + 1 ≡ record_end (cover_of log) = refl in
     let next : log.next ≡ next_of (cover_of log) = omega arith in
     record {
       tail = refl;
@@ -224,11 +224,11 @@ pub log_covered : (laws : WholeLaws) (old new : List Sector) (anchor position ne
     → HasLog old anchor position next log → HasLog new anchor position next (covered log)
 log_covered laws old new anchor position next log within torn small all has =
     let item = cover_of log in
-    let room : end_of item - item.tail ≤ length old = omega (arith, torn.some) in
+    let room : record_end item - item.tail ≤ length old = omega (arith, torn.some) in
     let whole = item_whole old new item torn room all in
     record {
       records = inl (item, item_last laws old new item position torn within.from whole, cover_to new anchor log small within.some within.next whole);
-      below = below_more new (end_of item) (log.end + 1 + length new) (omega arith) (torn_below old new item torn);
+      below = below_more new (record_end item) (log.end + 1 + length new) (omega arith) (torn_below old new item torn);
     }
 
 -- ---- at most one log
@@ -251,10 +251,10 @@ to-unique : (laws : WholeLaws) (ring : List Sector) (anchor position : ℕ) (las
 to-unique laws ring anchor position last other a b is_last is_other isa isb =
     let same : last ≡ other = last-unique laws ring position last other is_last is_other in
     let tail : a.tail ≡ b.tail = isa.tail ∙ ap (λ (r : LogRecord). r.tail) same ∙ sym isb.tail in
-    let end : a.end ≡ b.end = isa.end.0 ∙ ap (λ (r : LogRecord). end_of r) same ∙ sym isb.end.0 in
+    let end : a.end ≡ b.end = isa.end.0 ∙ ap (λ (r : LogRecord). record_end r) same ∙ sym isb.end.0 in
     let next : a.next ≡ b.next = isa.next.0 ∙ ap (λ (r : LogRecord). next_of r) same ∙ sym isb.next.0 in
-    let from : IsChain ring a.tail isb.chain.0 b.records b.end b.next = subst (λ (t : ℕ). IsChain ring t isb.chain.0 b.records b.end b.next) (sym tail) isb.chain.2 in
-    let chain : IsChain ring a.tail isb.chain.0 b.records a.end b.next = subst (λ (e : ℕ). IsChain ring a.tail isb.chain.0 b.records e b.next) (sym end) from in
+    let from : IsRecordChain ring a.tail isb.chain.0 b.records b.end b.next = subst (λ (t : ℕ). IsRecordChain ring t isb.chain.0 b.records b.end b.next) (sym tail) isb.chain.2 in
+    let chain : IsRecordChain ring a.tail isb.chain.0 b.records a.end b.next = subst (λ (e : ℕ). IsRecordChain ring a.tail isb.chain.0 b.records e b.next) (sym end) from in
     let records = chain-unique laws ring a.tail isa.chain.0 isb.chain.0 a.records b.records a.end a.next b.next isa.chain.2 chain in
     log_from_parts a b tail end next records
 

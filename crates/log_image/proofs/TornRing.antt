@@ -5,9 +5,9 @@ use Rattle.std.proofs.lemmas.Nat.{mod_below}
 use Rattle.life_bytes.specs.Fields.{field}
 use Rattle.life_bytes.specs.declared.sector.Sector.{Sector}
 use Rattle.log_record.specs.declared.record.LogRecord.{LogRecord}
-use Rattle.log_record.specs.Encoding.{IsRecord, FitsFields, sector_at, sector_count}
+use Rattle.log_record.specs.Encoding.{IsRecord, FitsFields, record_sector, sector_count}
 use Rattle.log_record.specs.Whole.{IsWholeAt, at_place}
-use Rattle.log_image.specs.Log.{AreBelow, end_of}
+use Rattle.log_image.specs.Log.{AreBelow, record_end}
 use Rattle.log_image.proofs.Places.{count_of, some_sector, turn_apart, own_position, first_position}
 
 -- what is known of whole records
@@ -20,12 +20,12 @@ pub record WholeLaws : Type 0 where
       → i < sector_count (length item.images)
       → (field 8 0 (at_place ring (position + i) d).bytes ≡ position + i) × (field 8 8 (at_place ring (position + i) d).bytes ≡ position)
   pub counted : (ring : List Sector) (position : ℕ) (a b : LogRecord) → IsRecord a → FitsFields a
-      → ((d : Sector) → at_place ring position d ≡ sector_at a 0) → IsWholeAt ring position b → length a.images ≡ length b.images
+      → ((d : Sector) → at_place ring position d ≡ record_sector a 0) → IsWholeAt ring position b → length a.images ≡ length b.images
 
 -- a sector that is one of a record's, at its place
 abbrev pub IsOfRecord : ℕ → ℕ → LogRecord → Sector → Type 0
 IsOfRecord ring place item sector =
-    (i : ℕ) × (i < count_of item) × (place ≡ (item.position + i) % ring) × (sector ≡ sector_at item i)
+    (i : ℕ) × (i < count_of item) × (place ≡ (item.position + i) % ring) × (sector ≡ record_sector item i)
 
 -- Each sector of a ring is the one of another ring, or a record's at its place. No sector of that other ring has reached
 -- the record.
@@ -64,7 +64,7 @@ is_old old new item p d torn low = elim (at_position old new item p d torn) [
 -- a sector that has reached the record is one of the record's
 pub is_new : (old new : List Sector) (item : LogRecord) (p q : ℕ) (d : Sector) → IsTornRing old new item
     → field 8 0 (at_place new p d).bytes ≡ q → item.position ≤ q
-    → (i : ℕ) × (i < count_of item) × (item.position + i ≡ q) × (at_place new p d ≡ sector_at item i)
+    → (i : ℕ) × (i < count_of item) × (item.position + i ≡ q) × (at_place new p d ≡ record_sector item i)
 is_new old new item p q d torn has high = elim (at_position old new item p d torn) [
   | inl same ↦
       let low = old_below old new item p d torn in
@@ -114,24 +114,24 @@ whole_before laws old new item q other torn whole lt =
 
 -- where a record is whole at the position, all of the record's sectors were written
 pub all_written : (laws : WholeLaws) (old new : List Sector) (item other : LogRecord) → IsTornRing old new item
-    → IsWholeAt new item.position other → (i : ℕ) (d : Sector) → i < count_of item → at_place new (item.position + i) d ≡ sector_at item i
+    → IsWholeAt new item.position other → (i : ℕ) (d : Sector) → i < count_of item → at_place new (item.position + i) d ≡ record_sector item i
 all_written laws old new item other torn whole i d within =
-    let own : (j : ℕ) (e : Sector) → j < count_of other → at_place new (item.position + j) e ≡ sector_at item j =
+    let own : (j : ℕ) (e : Sector) → j < count_of other → at_place new (item.position + j) e ≡ record_sector item j =
     λ j e inside.
     let stamp = laws.stamped new item.position j e other whole inside in
     let of = is_new old new item (item.position + j) (item.position + j) e torn stamp.0 (omega arith) in
     let same : of.0 ≡ j = omega (arith, of.2) in
-    of.3 ∙ ap (λ (k : ℕ). sector_at item k) same in
+    of.3 ∙ ap (λ (k : ℕ). record_sector item k) same in
     let zero_is : item.position + 0 ≡ item.position = omega arith in
-    let first : (e : Sector) → at_place new item.position e ≡ sector_at item 0 =
+    let first : (e : Sector) → at_place new item.position e ≡ record_sector item 0 =
     λ e. ap (λ (p : ℕ). at_place new p e) (sym zero_is) ∙ own 0 e (some_sector other) in
     let count : length item.images ≡ length other.images = laws.counted new item.position item other torn.form torn.fits first whole in
     let counts : count_of item ≡ count_of other = ap (λ (m : ℕ). sector_count m) count in
     own i d (omega arith)
 
 -- a record that was written whole is whole
-pub item_whole : (old new : List Sector) (item : LogRecord) → IsTornRing old new item → end_of item - item.tail ≤ length old
-    → ((i : ℕ) (d : Sector) → i < count_of item → at_place new (item.position + i) d ≡ sector_at item i) → IsWholeAt new item.position item
+pub item_whole : (old new : List Sector) (item : LogRecord) → IsTornRing old new item → record_end item - item.tail ≤ length old
+    → ((i : ℕ) (d : Sector) → i < count_of item → at_place new (item.position + i) d ≡ record_sector item i) → IsWholeAt new item.position item
 item_whole old new item torn room all = record {
   begins = refl;
   form = torn.form;
@@ -142,7 +142,7 @@ item_whole old new item torn room all = record {
 
 -- an old record from the tail on, before the record, stays whole
 pub kept : (laws : WholeLaws) (old new : List Sector) (item : LogRecord) (tail q : ℕ) (other : LogRecord) → IsTornRing old new item
-    → end_of item - tail ≤ length old → tail ≤ q → end_of other ≤ item.position → IsWholeAt old q other → IsWholeAt new q other
+    → record_end item - tail ≤ length old → tail ≤ q → record_end other ≤ item.position → IsWholeAt old q other → IsWholeAt new q other
 kept laws old new item tail q other torn room from to whole =
     let begins : other.position ≡ q = whole.begins in
     laws.places old new q other torn.size

@@ -9,9 +9,9 @@ use Rattle.life_bytes.specs.declared.sector.Sector.{Sector}
 use Rattle.disk_model.specs.Disk.{Cell, IsImage, as_read, written}
 use Rattle.disk_model.specs.DiskLaws.{IsTorn, IsTorn-from_image, as_read-written, length-as_read, length-torn, length-written}
 use Rattle.log_record.specs.declared.record.LogRecord.{LogRecord}
-use Rattle.log_record.specs.Encoding.{sector_at, encoded}
+use Rattle.log_record.specs.Encoding.{record_sector, encoded_record}
 use Rattle.log_image.specs.Overlay.{images_of, newest}
-use Rattle.log_image.specs.Step.{IsLogged, IsPartlyHome, IsPartlyLogged, IsPlaceOf, place_of}
+use Rattle.log_image.specs.Step.{IsLogged, IsPartlyHome, IsPartlyLogged, IsPlaceOf, sector_of_position}
 use Rattle.log_image.specs.Writes.{first_part, rest_part}
 use Rattle.log_image.proofs.Places.{count_of}
 
@@ -131,22 +131,22 @@ place_high ring position i high low =
     ap (λ (p : ℕ). p % ring) e ∙ mul-add-mod_self_left ring (position / ring) (ring + (position % ring + i - ring))
     ∙ add-mod_left ring (position % ring + i - ring) ∙ mod-eq_of_lt low
 
-length-all : (item : LogRecord) → length (encoded item) ≡ count_of item
-unfolding encoded
-length-all item = length-map-range_with_len (sector_at item) 0 (count_of item)
+length-all : (item : LogRecord) → length (encoded_record item) ≡ count_of item
+unfolding encoded_record
+length-all item = length-map-range_with_len (record_sector item) 0 (count_of item)
 
-get_or-all : (item : LogRecord) (i : ℕ) (d : Sector) → i < count_of item → get_or (encoded item) i d ≡ sector_at item i
-unfolding encoded
-get_or-all item i d within = get_or-map-range_with_len (sector_at item) 0 (count_of item) i i d within (omega arith)
+get_or-all : (item : LogRecord) (i : ℕ) (d : Sector) → i < count_of item → get_or (encoded_record item) i d ≡ record_sector item i
+unfolding encoded_record
+get_or-all item i d within = get_or-map-range_with_len (record_sector item) 0 (count_of item) i i d within (omega arith)
 
 get_or-first : (ring : ℕ) (item : LogRecord) (i : ℕ) (d : Sector) → i < ring - item.position % ring → i < count_of item
-    → get_or (first_part ring item) i d ≡ sector_at item i
-get_or-first ring item i d low within = get_or-take (ring - item.position % ring) (encoded item) i d low ∙ get_or-all item i d within
+    → get_or (first_part ring item) i d ≡ record_sector item i
+get_or-first ring item i d low within = get_or-take (ring - item.position % ring) (encoded_record item) i d low ∙ get_or-all item i d within
 
 get_or-rest : (ring : ℕ) (item : LogRecord) (j i : ℕ) (d : Sector) → ring - item.position % ring + j ≡ i → i < count_of item
-    → get_or (rest_part ring item) j d ≡ sector_at item i
+    → get_or (rest_part ring item) j d ≡ record_sector item i
 get_or-rest ring item j i d e within =
-    get_or-drop (ring - item.position % ring) (encoded item) j d ∙ ap (λ (k : ℕ). get_or (encoded item) k d) e ∙ get_or-all item i d within
+    get_or-drop (ring - item.position % ring) (encoded_record item) j d ∙ ap (λ (k : ℕ). get_or (encoded_record item) k d) e ∙ get_or-all item i d within
 
 -- what is known of a record's two parts
 record HasParts (anchor ring : ℕ) (item : LogRecord) : Type 0 where
@@ -161,18 +161,18 @@ has_parts anchor ring item some few =
     record {
       low = mod_below item.position ring some;
       few = few;
-      first = length-take (ring - item.position % ring) (encoded item) ∙ ap (λ (n : ℕ). min (ring - item.position % ring) n) all;
-      rest = length-drop (ring - item.position % ring) (encoded item) ∙ ap (λ (n : ℕ). n - (ring - item.position % ring)) all;
+      first = length-take (ring - item.position % ring) (encoded_record item) ∙ ap (λ (n : ℕ). min (ring - item.position % ring) n) all;
+      rest = length-drop (ring - item.position % ring) (encoded_record item) ∙ ap (λ (n : ℕ). n - (ring - item.position % ring)) all;
     }
 
 -- the place of the i-th sector, in the first part or in the rest
 at_first : (anchor ring : ℕ) (item : LogRecord) (i : ℕ) → HasParts anchor ring item → i < ring - item.position % ring
-    → place_of anchor ring (item.position + i) ≡ place_of anchor ring item.position + i
+    → sector_of_position anchor ring (item.position + i) ≡ sector_of_position anchor ring item.position + i
 at_first anchor ring item i parts lt =
     let e = place_low ring item.position i (omega (arith, parts.low)) in omega arith
 
 at_rest : (anchor ring : ℕ) (item : LogRecord) (i : ℕ) → HasParts anchor ring item → ring - item.position % ring ≤ i → i < count_of item
-    → place_of anchor ring (item.position + i) ≡ anchor + 1 + (i - (ring - item.position % ring))
+    → sector_of_position anchor ring (item.position + i) ≡ anchor + 1 + (i - (ring - item.position % ring))
 at_rest anchor ring item i parts le within =
     let e = place_high ring item.position i (omega (arith, parts.low)) (omega (arith, parts.low, parts.few)) in omega (arith, parts.low)
 
@@ -180,10 +180,10 @@ at_rest anchor ring item i parts le within =
 
 -- a sector that no write came to
 beside : (anchor ring : ℕ) (item : LogRecord) (old middle new : List Sector) → HasParts anchor ring item
-    → IsTornAt (place_of anchor ring item.position) (first_part ring item) old middle → IsTornAt (anchor + 1) (rest_part ring item) middle new
+    → IsTornAt (sector_of_position anchor ring item.position) (first_part ring item) old middle → IsTornAt (anchor + 1) (rest_part ring item) middle new
     → (at : ℕ) (d : Sector) → (IsPlaceOf anchor ring item at → ⊥) → get_or new at d ≡ get_or old at d
 beside anchor ring item old middle new parts one two at d away =
-    let p = place_of anchor ring item.position in
+    let p = sector_of_position anchor ring item.position in
     let m = ring - item.position % ring in
     let before : get_or middle at d ≡ get_or old at d = elim (cases_lt at p) [
       | inl lt ↦ one.before at d lt
@@ -192,7 +192,7 @@ beside anchor ring item old middle new parts one two at d away =
         | inl inside ↦
             let i = at - p in
             let low : i < m = omega (arith, parts.first) in
-            let is : at ≡ place_of anchor ring (item.position + i) = omega (arith, at_first anchor ring item i parts low) in
+            let is : at ≡ sector_of_position anchor ring (item.position + i) = omega (arith, at_first anchor ring item i parts low) in
             absurd (away (i, omega (arith, parts.first), is))
       ]
     ] in
@@ -203,7 +203,7 @@ beside anchor ring item old middle new parts one two at d away =
         | inl inside ↦
             let i = m + (at - (anchor + 1)) in
             let within : i < count_of item = omega (arith, parts.rest) in
-            let is : at ≡ place_of anchor ring (item.position + i) = omega (arith, at_rest anchor ring item i parts (omega arith) within) in
+            let is : at ≡ sector_of_position anchor ring (item.position + i) = omega (arith, at_rest anchor ring item i parts (omega arith) within) in
             absurd (away (i, within, is))
       ]
     ] in
@@ -211,13 +211,13 @@ beside anchor ring item old middle new parts one two at d away =
 
 -- a sector of the record
 abbrev Either : List Sector → List Sector → LogRecord → ℕ → Sector → ℕ → Type 0
-Either old new item i d at = (get_or new at d ≡ get_or old at d) ⊎ (get_or new at d ≡ sector_at item i)
+Either old new item i d at = (get_or new at d ≡ get_or old at d) ⊎ (get_or new at d ≡ record_sector item i)
 
 torn_first : (anchor ring : ℕ) (item : LogRecord) (old middle new : List Sector) → HasParts anchor ring item
-    → IsTornAt (place_of anchor ring item.position) (first_part ring item) old middle → IsTornAt (anchor + 1) (rest_part ring item) middle new
-    → (i : ℕ) (d : Sector) → i < count_of item → i < ring - item.position % ring → Either old new item i d (place_of anchor ring item.position + i)
+    → IsTornAt (sector_of_position anchor ring item.position) (first_part ring item) old middle → IsTornAt (anchor + 1) (rest_part ring item) middle new
+    → (i : ℕ) (d : Sector) → i < count_of item → i < ring - item.position % ring → Either old new item i d (sector_of_position anchor ring item.position + i)
 torn_first anchor ring item old middle new parts one two i d within low =
-    let at = place_of anchor ring item.position + i in
+    let at = sector_of_position anchor ring item.position + i in
     let stays : get_or new at d ≡ get_or middle at d = two.behind at d (omega (arith, parts.rest, parts.few, parts.low)) in
     elim (one.inside i d (omega (arith, parts.first))) [
       | inl same ↦ inl (stays ∙ same)
@@ -225,7 +225,7 @@ torn_first anchor ring item old middle new parts one two i d within low =
     ]
 
 torn_rest : (anchor ring : ℕ) (item : LogRecord) (old middle new : List Sector) → HasParts anchor ring item
-    → IsTornAt (place_of anchor ring item.position) (first_part ring item) old middle → IsTornAt (anchor + 1) (rest_part ring item) middle new
+    → IsTornAt (sector_of_position anchor ring item.position) (first_part ring item) old middle → IsTornAt (anchor + 1) (rest_part ring item) middle new
     → (i j : ℕ) (d : Sector) → i < count_of item → ring - item.position % ring + j ≡ i → Either old new item i d (anchor + 1 + j)
 torn_rest anchor ring item old middle new parts one two i j d within e =
     let at = anchor + 1 + j in
@@ -236,7 +236,7 @@ torn_rest anchor ring item old middle new parts one two i j d within e =
     ]
 
 partly_logged : (anchor ring : ℕ) (item : LogRecord) (old middle new : List Sector) → HasParts anchor ring item → length new ≡ length old
-    → IsTornAt (place_of anchor ring item.position) (first_part ring item) old middle → IsTornAt (anchor + 1) (rest_part ring item) middle new
+    → IsTornAt (sector_of_position anchor ring item.position) (first_part ring item) old middle → IsTornAt (anchor + 1) (rest_part ring item) middle new
     → IsPartlyLogged anchor ring item old new
 partly_logged anchor ring item old middle new parts size one two = record {
   size = size;
@@ -249,7 +249,7 @@ partly_logged anchor ring item old middle new parts size one two = record {
 }
 
 logged : (anchor ring : ℕ) (item : LogRecord) (old middle new : List Sector) → HasParts anchor ring item → length new ≡ length old
-    → IsPutAt (place_of anchor ring item.position) (first_part ring item) old middle → IsPutAt (anchor + 1) (rest_part ring item) middle new
+    → IsPutAt (sector_of_position anchor ring item.position) (first_part ring item) old middle → IsPutAt (anchor + 1) (rest_part ring item) middle new
     → IsLogged anchor ring item old new
 logged anchor ring item old middle new parts size one two =
     let m = ring - item.position % ring in
@@ -257,26 +257,26 @@ logged anchor ring item old middle new parts size one two =
       size = size;
       places = λ i d within. elim (cases_lt i m) [
         | inl low ↦
-            let at = place_of anchor ring item.position + i in
-            let put : get_or new at d ≡ sector_at item i =
+            let at = sector_of_position anchor ring item.position + i in
+            let put : get_or new at d ≡ record_sector item i =
             two.behind at d (omega (arith, parts.rest, parts.few, parts.low)) ∙ one.inside i d (omega (arith, parts.first)) ∙ get_or-first ring item i d low within in
-            subst (λ (k : ℕ). get_or new k d ≡ sector_at item i) (sym (at_first anchor ring item i parts low)) put
+            subst (λ (k : ℕ). get_or new k d ≡ record_sector item i) (sym (at_first anchor ring item i parts low)) put
         | inr high ↦
-            let put : get_or new (anchor + 1 + (i - m)) d ≡ sector_at item i =
+            let put : get_or new (anchor + 1 + (i - m)) d ≡ record_sector item i =
             two.inside (i - m) d (omega (arith, parts.rest)) ∙ get_or-rest ring item (i - m) i d (omega arith) within in
-            subst (λ (k : ℕ). get_or new k d ≡ sector_at item i) (sym (at_rest anchor ring item i parts high within)) put
+            subst (λ (k : ℕ). get_or new k d ≡ record_sector item i) (sym (at_rest anchor ring item i parts high within)) put
       ];
       others = beside anchor ring item old middle new parts
-          (put_torn (place_of anchor ring item.position) (first_part ring item) old middle one) (put_torn (anchor + 1) (rest_part ring item) middle new two);
+          (put_torn (sector_of_position anchor ring item.position) (first_part ring item) old middle one) (put_torn (anchor + 1) (rest_part ring item) middle new two);
     }
 
 -- ---- in the words of disks
 
 pub record_first : (cells : List Cell) (image : List Sector) (anchor ring : ℕ) (item : LogRecord) → 0 < ring
-    → count_of item ≤ ring → IsImage (written (place_of anchor ring item.position) (first_part ring item) cells) image
+    → count_of item ≤ ring → IsImage (written (sector_of_position anchor ring item.position) (first_part ring item) cells) image
     → (old : List Sector) × IsImage cells old × IsPartlyLogged anchor ring item old image
 record_first cells image anchor ring item some few is =
-    let p = place_of anchor ring item.position in
+    let p = sector_of_position anchor ring item.position in
     let torn = IsTorn-from_image p (first_part ring item) cells image is in
     let parts = has_parts anchor ring item some few in (
       torn.0,
@@ -286,10 +286,10 @@ record_first cells image anchor ring item some few is =
     )
 
 pub record_both : (cells : List Cell) (image : List Sector) (anchor ring : ℕ) (item : LogRecord) → 0 < ring
-    → count_of item ≤ ring → IsImage (written (anchor + 1) (rest_part ring item) (written (place_of anchor ring item.position) (first_part ring item) cells)) image
+    → count_of item ≤ ring → IsImage (written (anchor + 1) (rest_part ring item) (written (sector_of_position anchor ring item.position) (first_part ring item) cells)) image
     → (old : List Sector) × IsImage cells old × IsPartlyLogged anchor ring item old image
 record_both cells image anchor ring item some few is =
-    let p = place_of anchor ring item.position in
+    let p = sector_of_position anchor ring item.position in
     let half = written p (first_part ring item) cells in
     let two = IsTorn-from_image (anchor + 1) (rest_part ring item) half image is in
     let one = IsTorn-from_image p (first_part ring item) cells two.0 two.1 in
@@ -303,9 +303,9 @@ record_both cells image anchor ring item some few is =
 
 pub record_read : (cells : List Cell) (anchor ring : ℕ) (item : LogRecord) → anchor + 1 + ring ≤ length cells → 0 < ring → count_of item ≤ ring
     → IsLogged anchor ring item (as_read cells)
-    (as_read (written (anchor + 1) (rest_part ring item) (written (place_of anchor ring item.position) (first_part ring item) cells)))
+    (as_read (written (anchor + 1) (rest_part ring item) (written (sector_of_position anchor ring item.position) (first_part ring item) cells)))
 record_read cells anchor ring item size some few =
-    let p = place_of anchor ring item.position in
+    let p = sector_of_position anchor ring item.position in
     let half = written p (first_part ring item) cells in
     let whole = written (anchor + 1) (rest_part ring item) half in
     let parts = has_parts anchor ring item some few in
@@ -350,9 +350,9 @@ home_image cells image anchor home records sector low is written_image =
     )
 
 pub record_straight : (ring : ℕ) (item : LogRecord) → item.position % ring + count_of item ≤ ring
-    → (first_part ring item ≡ encoded item) × (rest_part ring item ≡ [])
+    → (first_part ring item ≡ encoded_record item) × (rest_part ring item ≡ [])
 record_straight ring item fits =
     let all = length-all item in (
-      take_all (ring - item.position % ring) (encoded item) (omega arith),
-      drop_all (ring - item.position % ring) (encoded item) (omega arith),
+      take_all (ring - item.position % ring) (encoded_record item) (omega arith),
+      drop_all (ring - item.position % ring) (encoded_record item) (omega arith),
     )

@@ -6,11 +6,11 @@ use Rattle.std.proofs.lemmas.List.{get_or_default}
 use Rattle.life_bytes.specs.Fields.{field}
 use Rattle.life_bytes.specs.declared.sector.Sector.{Sector}
 use Rattle.log_record.specs.declared.record.LogRecord.{LogRecord}
-use Rattle.log_record.specs.Encoding.{IsRecord, FitsFields, sector_at}
+use Rattle.log_record.specs.Encoding.{IsRecord, FitsFields, record_sector}
 use Rattle.log_record.specs.Whole.{IsWholeAt, at_place}
 use Rattle.log_image.specs.Anchor.{HasAnchor}
-use Rattle.log_image.specs.Log.{AreBelow, HasLog, IsLog, Log, end_of, groups_part, ring_part}
-use Rattle.log_image.specs.Step.{GoesOn, IsLogged, IsPartlyLogged, IsPlaceOf, cover_of, covered, place_of, with_record}
+use Rattle.log_image.specs.Log.{AreBelow, HasLog, IsLog, Log, record_end, groups_part, ring_part}
+use Rattle.log_image.specs.Step.{ExtendsLog, IsLogged, IsPartlyLogged, IsPlaceOf, cover_of, covered, sector_of_position, with_record}
 use Rattle.log_image.proofs.Places.{count_of, some_sector, find_place, own_position}
 use Rattle.log_image.proofs.TornRing.{WholeLaws, IsTornRing, IsOfRecord, all_written}
 use Rattle.log_image.proofs.RingLogs.{Bounds, FitsLog, bounds, log_same, log_more, log_covered, torn_below}
@@ -29,13 +29,13 @@ all_logged anchor ring item old new all = record {
 -- ---- which sectors were written
 
 abbrev Written : ℕ → ℕ → LogRecord → List Sector → ℕ → Type 0
-Written anchor ring item new count = (i : ℕ) (d : Sector) → i < count → get_or new (place_of anchor ring (item.position + i)) d ≡ sector_at item i
+Written anchor ring item new count = (i : ℕ) (d : Sector) → i < count → get_or new (sector_of_position anchor ring (item.position + i)) d ≡ record_sector item i
 
 abbrev SomeOld : ℕ → ℕ → LogRecord → List Sector → List Sector → Type 0
 SomeOld anchor ring item old new =
-    (i : ℕ) × (i < count_of item) × (get_or new (place_of anchor ring (item.position + i)) none ≡ get_or old (place_of anchor ring (item.position + i)) none)
+    (i : ℕ) × (i < count_of item) × (get_or new (sector_of_position anchor ring (item.position + i)) none ≡ get_or old (sector_of_position anchor ring (item.position + i)) none)
 
-place_within : (anchor ring position : ℕ) (image : List Sector) → 0 < ring → anchor + 1 + ring ≤ length image → place_of anchor ring position < length image
+place_within : (anchor ring position : ℕ) (image : List Sector) → 0 < ring → anchor + 1 + ring ≤ length image → sector_of_position anchor ring position < length image
 place_within anchor ring position image some size =
     let low : position % ring < ring = mod_below position ring some in
     omega arith
@@ -53,8 +53,8 @@ written_or_not anchor ring item old new some size partly (suc k) within =
           | inr le ↦
               let last : k ≡ i = omega arith in
               let inside = place_within anchor ring (item.position + k) new some size in
-              let P : ℕ → Type 0 = λ j. get_or new (place_of anchor ring (item.position + j)) d ≡ sector_at item j in
-              subst P last (get_or_default new (place_of anchor ring (item.position + k)) d none inside ∙ here)
+              let P : ℕ → Type 0 = λ j. get_or new (sector_of_position anchor ring (item.position + j)) d ≡ record_sector item j in
+              subst P last (get_or_default new (sector_of_position anchor ring (item.position + k)) d none inside ∙ here)
         ])
       ]
     ]
@@ -69,10 +69,10 @@ each_sector anchor ring item old new partly x d within =
     let now = get_or-ring_part anchor ring new x d within in
     elim (find_place item.position ring x (count_of item)) [
       | inl found ↦
-          let at : place_of anchor ring (item.position + found.0) ≡ anchor + 1 + x = omega (arith, found.2) in
+          let at : sector_of_position anchor ring (item.position + found.0) ≡ anchor + 1 + x = omega (arith, found.2) in
           elim (partly.places found.0 d found.1) [
             | inl same ↦ inl (now ∙ subst (λ (k : ℕ). get_or new k d ≡ get_or old k d) at same ∙ sym before)
-            | inr here ↦ inr (found.0, found.1, found.2, now ∙ subst (λ (k : ℕ). get_or new k d ≡ sector_at item found.0) at here)
+            | inr here ↦ inr (found.0, found.1, found.2, now ∙ subst (λ (k : ℕ). get_or new k d ≡ record_sector item found.0) at here)
           ]
       | inr away ↦ inl (now ∙ partly.others (anchor + 1 + x) d (λ place. away place.0 place.1 (omega (arith, place.2))) ∙ sym before)
     ]
@@ -96,7 +96,7 @@ torn_ring anchor ring item old new some size form fits below partly =
     }
 
 at_ring : (anchor ring : ℕ) (image : List Sector) (position : ℕ) (d : Sector) → 0 < ring → anchor + 1 + ring ≤ length image
-    → at_place (ring_part anchor ring image) position d ≡ get_or image (place_of anchor ring position) d
+    → at_place (ring_part anchor ring image) position d ≡ get_or image (sector_of_position anchor ring position) d
 at_ring anchor ring image position d some size =
     ap (λ (n : ℕ). get_or (ring_part anchor ring image) (position % n) d) (length-ring_part anchor ring image size)
     ∙ get_or-ring_part anchor ring image (position % ring) d (mod_below position ring some)
@@ -107,9 +107,9 @@ not_whole : (laws : WholeLaws) (anchor ring : ℕ) (item : LogRecord) (old new :
 not_whole laws anchor ring item old new some size same torn found other whole =
     let i = found.0 in
     let p = item.position + i in
-    let is : at_place (ring_part anchor ring new) p none ≡ sector_at item i =
+    let is : at_place (ring_part anchor ring new) p none ≡ record_sector item i =
     all_written laws (ring_part anchor ring old) (ring_part anchor ring new) item other torn whole i none found.1 in
-    let was : at_place (ring_part anchor ring old) p none ≡ sector_at item i =
+    let was : at_place (ring_part anchor ring old) p none ≡ record_sector item i =
     at_ring anchor ring old p none some size ∙ sym found.2 ∙ sym (at_ring anchor ring new p none some (omega arith)) ∙ is in
     let own : field 8 0 (at_place (ring_part anchor ring old) p none).bytes ≡ p =
     ap (λ (s : Sector). field 8 0 s.bytes) was ∙ own_position item i torn.form found.1 in
@@ -143,19 +143,19 @@ image_bounds image anchor ring log is =
     let size = length-ring_part anchor ring image is.size in
     (b.ordered, omega (arith, b.turn), omega (arith, b.from, anchored.start.0), b.end, b.some, b.next)
 
-some_ring : (old : List Sector) (anchor ring : ℕ) (log : Log) (item : LogRecord) → IsLog old anchor ring log → GoesOn anchor ring log item → 0 < ring
+some_ring : (old : List Sector) (anchor ring : ℕ) (log : Log) (item : LogRecord) → IsLog old anchor ring log → ExtendsLog anchor ring log item → 0 < ring
 some_ring old anchor ring log item is goes =
     let b = image_bounds old anchor ring log is in
     let some = some_sector item in
     omega (arith, goes.position, goes.room, b.0)
 
 torn_of : (old new : List Sector) (anchor ring : ℕ) (log : Log) (item : LogRecord) → IsLog old anchor ring log → AreBelow (ring_part anchor ring old) log.end
-    → GoesOn anchor ring log item → IsPartlyLogged anchor ring item old new → IsTornRing (ring_part anchor ring old) (ring_part anchor ring new) item
+    → ExtendsLog anchor ring log item → IsPartlyLogged anchor ring item old new → IsTornRing (ring_part anchor ring old) (ring_part anchor ring new) item
 torn_of old new anchor ring log item is below goes partly =
     torn_ring anchor ring item old new (some_ring old anchor ring log item is goes) is.size goes.form goes.fits
     (subst (λ (p : ℕ). AreBelow (ring_part anchor ring old) p) (sym goes.position) below) partly
 
-fits_log : (anchor ring n : ℕ) (log : Log) (item : LogRecord) → n ≡ ring → GoesOn anchor ring log item → FitsLog n anchor log item
+fits_log : (anchor ring n : ℕ) (log : Log) (item : LogRecord) → n ≡ ring → ExtendsLog anchor ring log item → FitsLog n anchor log item
 fits_log anchor ring n log item size goes = record {
   position = goes.position;
   first = goes.first;
@@ -171,7 +171,7 @@ bounds_of image anchor ring log is =
     bounds (ring_part anchor ring image) anchor is.says.0 is.says.1 log is.says.2.start.1 is.says.2.number.0 is.says.2.number.1 is.says.3
 
 pub whole_record : (laws : WholeLaws) (old new : List Sector) (anchor ring : ℕ) (log : Log) (item : LogRecord) → IsLog old anchor ring log
-    → AreBelow (ring_part anchor ring old) log.end → GoesOn anchor ring log item → IsLogged anchor ring item old new → IsLog new anchor ring (with_record log item)
+    → AreBelow (ring_part anchor ring old) log.end → ExtendsLog anchor ring log item → IsLogged anchor ring item old new → IsLog new anchor ring (with_record log item)
 whole_record laws old new anchor ring log item is below goes logged =
     let partly = all_logged anchor ring item old new logged in
     let torn = torn_of old new anchor ring log item is below goes partly in
@@ -190,7 +190,7 @@ whole_record laws old new anchor ring log item is below goes logged =
     }
 
 unfinished : (laws : WholeLaws) (old new : List Sector) (anchor ring : ℕ) (log : Log) (item : LogRecord) → IsLog old anchor ring log
-    → AreBelow (ring_part anchor ring old) log.end → GoesOn anchor ring log item → IsPartlyLogged anchor ring item old new → SomeOld anchor ring item old new
+    → AreBelow (ring_part anchor ring old) log.end → ExtendsLog anchor ring log item → IsPartlyLogged anchor ring item old new → SomeOld anchor ring item old new
     → IsLog new anchor ring log
 unfinished laws old new anchor ring log item is below goes partly found =
     let torn = torn_of old new anchor ring log item is below goes partly in
@@ -208,7 +208,7 @@ unfinished laws old new anchor ring log item is below goes partly found =
     }
 
 pub torn_record : (laws : WholeLaws) (old new : List Sector) (anchor ring : ℕ) (log : Log) (item : LogRecord) → IsLog old anchor ring log
-    → AreBelow (ring_part anchor ring old) log.end → GoesOn anchor ring log item → IsPartlyLogged anchor ring item old new
+    → AreBelow (ring_part anchor ring old) log.end → ExtendsLog anchor ring log item → IsPartlyLogged anchor ring item old new
     → IsLog new anchor ring log ⊎ (IsLogged anchor ring item old new × IsLog new anchor ring (with_record log item))
 torn_record laws old new anchor ring log item is below goes partly =
     let some = some_ring old anchor ring log item is goes in
@@ -220,8 +220,8 @@ torn_record laws old new anchor ring log item is below goes partly =
     ]
 
 pub record_below : (old new : List Sector) (anchor ring : ℕ) (log : Log) (item : LogRecord) → IsLog old anchor ring log
-    → AreBelow (ring_part anchor ring old) log.end → GoesOn anchor ring log item → IsPartlyLogged anchor ring item old new
-    → AreBelow (ring_part anchor ring new) (end_of item)
+    → AreBelow (ring_part anchor ring old) log.end → ExtendsLog anchor ring log item → IsPartlyLogged anchor ring item old new
+    → AreBelow (ring_part anchor ring new) (record_end item)
 record_below old new anchor ring log item is below goes partly =
     torn_below (ring_part anchor ring old) (ring_part anchor ring new) item (torn_of old new anchor ring log item is below goes partly)
 
@@ -277,17 +277,17 @@ no_cover : (anchor ring : ℕ) (log : Log) (old new : List Sector) → 0 < ring 
     → IsPartlyLogged anchor ring (cover_of log) old new → SomeOld anchor ring (cover_of log) old new → (at : ℕ) (d : Sector) → anchor ≤ at → get_or new at d ≡ get_or old at d
 no_cover anchor ring log old new some size partly found at d from =
     let zero_is : found.0 ≡ 0 = omega (arith, found.1) in
-    let same : place_of anchor ring (log.end + found.0) ≡ place_of anchor ring (log.end + 0) = ap (λ (i : ℕ). place_of anchor ring (log.end + i)) zero_is in
-    elim (Rattle.std.proofs.lemmas.Bool.cases_eq at (place_of anchor ring (log.end + found.0))) [
+    let same : sector_of_position anchor ring (log.end + found.0) ≡ sector_of_position anchor ring (log.end + 0) = ap (λ (i : ℕ). sector_of_position anchor ring (log.end + i)) zero_is in
+    elim (Rattle.std.proofs.lemmas.Bool.cases_eq at (sector_of_position anchor ring (log.end + found.0))) [
       | inl here ↦
-          let inside : place_of anchor ring (log.end + found.0) < length old = place_within anchor ring (log.end + found.0) old some size in
+          let inside : sector_of_position anchor ring (log.end + found.0) < length old = place_within anchor ring (log.end + found.0) old some size in
           let within : at < length old = omega arith in
           let at_none : get_or new at none ≡ get_or old at none =
           subst (λ (k : ℕ). get_or new k none ≡ get_or old k none) (sym here) found.2 in
           get_or_default new at d none (omega (arith, partly.size)) ∙ at_none ∙ sym (get_or_default old at d none within)
       | inr away ↦ partly.others at d (λ place.
           let first : place.0 ≡ found.0 = omega (arith, place.1, found.1) in
-          away (place.2 ∙ ap (λ (i : ℕ). place_of anchor ring (log.end + i)) first))
+          away (place.2 ∙ ap (λ (i : ℕ). sector_of_position anchor ring (log.end + i)) first))
     ]
 
 pub torn_or_covered : (laws : WholeLaws) (old new : List Sector) (anchor ring : ℕ) (log : Log) → IsLog old anchor ring log

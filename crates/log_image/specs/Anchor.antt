@@ -1,16 +1,16 @@
 -- The anchor: the sector in front of the ring, which tells from which position on records count.
 use Rattle.std.specs.Prelude.{ℕ, List, [], ◌∷◌, ◌≡◌, ◌≤◌, ◌<◌, ◌^◌, Some, slice_get}
 use Rattle.life_bytes.specs.declared.sector.Sector.{Sector}
-use Rattle.life_bytes.specs.Pieces.{Row, number, placed, blank, sealed}
+use Rattle.life_bytes.specs.Pieces.{Field, number, placed, blank, sealed}
 
 -- `ANCH` in ASCII
-abbrev pub magic : ℕ
-magic = 0x414E_4348
+abbrev pub anchor_magic : ℕ
+anchor_magic = 0x414E_4348
 
 -- the first valid position, and the next commit number
-abbrev pub anchor_rows : ℕ → ℕ → List Row
+abbrev pub anchor_rows : ℕ → ℕ → List Field
 anchor_rows position next =
-    number 0 4 magic
+    number 0 4 anchor_magic
     ∷ number 8 8 position
     ∷ number 16 8 next
     ∷ []

@@ -5,8 +5,8 @@ use Rattle.life_bytes.specs.declared.sector.Sector.{Sector}
 use Rattle.life_bytes.specs.Fields.{field}
 use Rattle.log_record.specs.declared.record.LogRecord.{LogRecord}
 use Rattle.log_image.specs.Anchor.{HasAnchor}
-use Rattle.log_image.specs.Log.{HasNoLast, IsLast, IsLogTo, Log, end_of, ring_part}
-use Rattle.log_image.specs.Step.{place_of}
+use Rattle.log_image.specs.Log.{HasNoLast, IsLast, IsLogTo, Log, record_end, ring_part}
+use Rattle.log_image.specs.Step.{sector_of_position}
 
 -- the numbers of the two rules
 abbrev pub anchor_rule : ℕ
@@ -24,13 +24,13 @@ AnchorBreaks image anchor ring s =
 -- anchor's position
 abbrev pub EndsAt : List Sector → ℕ → ℕ → Type 0
 EndsAt ring position end =
-    ((last : LogRecord) × IsLast ring position last × (end ≡ end_of last)) ⊎ (HasNoLast ring position × (end ≡ position))
+    ((last : LogRecord) × IsLast ring position last × (end ≡ record_end last)) ⊎ (HasNoLast ring position × (end ≡ position))
 
 -- No log leads up to the last record, whose first sector is named.
 abbrev pub ChainBreaks : List Sector → ℕ → ℕ → ℕ → Type 0
 ChainBreaks ring anchor position s =
     (last : LogRecord) × IsLast ring position last × ((log : Log) → IsLogTo ring anchor last log → ⊥)
-    × (s ≡ place_of anchor (length ring) last.position)
+    × (s ≡ sector_of_position anchor (length ring) last.position)
 
 -- A sector of the ring is from beyond the log's end and one turn of the ring, and is named.
 abbrev pub PositionBreaks : List Sector → ℕ → ℕ → ℕ → Type 0

@@ -27,8 +27,8 @@ pub record AreBelow (ring : List Sector) (position : ℕ) : Type 0 where
 -- ---- records
 
 -- the position behind a record
-abbrev pub end_of : LogRecord → ℕ
-end_of item = item.position + sector_count (length item.images)
+abbrev pub record_end : LogRecord → ℕ
+record_end item = item.position + sector_count (length item.images)
 
 -- the number of the commit behind a record's commits
 abbrev pub next_of : LogRecord → ℕ
@@ -50,10 +50,10 @@ HasNoLast ring position = (item : LogRecord) → IsWholeAt ring item.position it
 
 -- Whole records without a gap, each of which begins where the one before ends: from a position and a commit number on,
 -- up to others.
-abbrev pub IsChain : List Sector → ℕ → ℕ → List LogRecord → ℕ → ℕ → Type 0
-IsChain ring position number [] end next = (position ≡ end) × (number ≡ next)
-IsChain ring position number (item ∷ records) end next =
-    IsWholeAt ring position item × (item.first ≡ number) × IsChain ring (end_of item) (next_of item) records end next
+abbrev pub IsRecordChain : List Sector → ℕ → ℕ → List LogRecord → ℕ → ℕ → Type 0
+IsRecordChain ring position number [] end next = (position ≡ end) × (number ≡ next)
+IsRecordChain ring position number (item ∷ records) end next =
+    IsWholeAt ring position item × (item.first ≡ number) × IsRecordChain ring (record_end item) (next_of item) records end next
 
 -- ---- the log
 
@@ -73,9 +73,9 @@ empty_log position next = record { tail = position; end = position; next = next;
 -- numbers are at least 1 and go on, with images of the groups' sectors.
 pub record IsLogTo (ring : List Sector) (anchor : ℕ) (last : LogRecord) (log : Log) : Type 0 where
   pub tail : log.tail ≡ last.tail
-  pub end : (log.end ≡ end_of last) × (log.end < 2 ^ 64)
+  pub end : (log.end ≡ record_end last) × (log.end < 2 ^ 64)
   pub next : (log.next ≡ next_of last) × (log.next < 2 ^ 64)
-  pub chain : (first : ℕ) × (1 ≤ first) × IsChain ring log.tail first log.records log.end log.next
+  pub chain : (first : ℕ) × (1 ≤ first) × IsRecordChain ring log.tail first log.records log.end log.next
   pub homes : All (λ item. All (IsGroupImage anchor) item.images) log.records
 
 -- A ring has this log, where the anchor in front of it has the position and the commit number: the log up to the last

@@ -1,5 +1,5 @@
 -- Sectors with images over them.
-use Rattle.std.specs.Prelude.{ℕ, List, [], ◌∷◌, Option, None, Some, ◌==◌, if◌then◌else◌, slice_set}
+use Rattle.std.specs.Prelude.{ℕ, List, [], ◌∷◌, Option, None, Some, ◌==◌, if◌then◌else◌, slice_set, map}
 use Rattle.std.specs.List.{flat_map}
 use Rattle.std.specs.Option.{option_or}
 use Rattle.life_bytes.specs.declared.sector.Sector.{Sector}
@@ -19,3 +19,7 @@ newest home (image ∷ images) = option_or (newest home images) (if image.home =
 -- the images of several records, one record's after the other's
 abbrev pub images_of : List LogRecord → List Image
 images_of records = flat_map (λ item. item.images) records
+
+-- the homes of images
+abbrev pub homes : List Image → List ℕ
+homes images = map (λ (image : Image). image.home) images

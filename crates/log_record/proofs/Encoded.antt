@@ -1,4 +1,4 @@
--- Sectors whose stamps and payload are those of a record are what the record is encoded as.
+-- Sectors whose stamps and payload are those of a record are what the record is encoded_record as.
 use Rattle.std.proofs.Common.{◌≡◌, ℕ, zero, suc, ◌+◌, ◌-◌, ◌*◌, ◌<◌, ◌≤◌, List, [], ◌∷◌, ◌++◌, length, take, drop, get_or, map, replicate, refl, sym, ap, ◌∙◌, arith, append_assoc, subst}
 use Rattle.std.specs.List.{flat_map, All}
 use Rattle.std.proofs.Math.Seq.{drop-append-add}
@@ -7,10 +7,11 @@ use Rattle.std.proofs.lemmas.List.Elements.{All-push}
 use Rattle.std.proofs.lemmas.List.FromFn.{fill_by_all}
 use Rattle.life_bytes.specs.Fields.{with_piece, with_field}
 use Rattle.life_bytes.specs.declared.sector.Sector.{Sector}
+use Rattle.life_bytes.specs.Sectors.{AreSectors}
 use Rattle.log_record.specs.declared.image.Image.{Image}
 use Rattle.log_record.specs.declared.record.LogRecord.{LogRecord}
-use Rattle.log_record.specs.Payload.{payload_of, part_of, stamps_of, AreSectors, HasStamps}
-use Rattle.log_record.specs.Encoding.{FitsImage, sector_count, header, image_bytes, payload, stamps, sector_at, encoded}
+use Rattle.log_record.specs.Payload.{payload_of, part_of, stamps_of, HasStamps}
+use Rattle.log_record.specs.Encoding.{FitsImage, sector_count, record_header, image_bytes, payload, stamps, record_sector, encoded_record}
 
 abbrev sector_of : List ℕ → Sector
 sector_of bytes = record { bytes = bytes }
@@ -19,8 +20,8 @@ pub length-stamps : (p f : ℕ) → length (stamps p f) ≡ 16
 unfolding stamps
 length-stamps p f = refl
 
-pub length-header : (tail first commits images : ℕ) → length (header tail first commits images) ≡ 32
-unfolding header
+pub length-header : (tail first commits images : ℕ) → length (record_header tail first commits images) ≡ 32
+unfolding record_header
 length-header tail first commits images = refl
 
 pub length-image_bytes : (image : Image) → FitsImage image → length (image_bytes image) ≡ 520
@@ -48,17 +49,17 @@ part_at (x ∷ xs) (suc i) d whole within =
     ∙ ap (λ (l : List ℕ). take 496 l) (drop-append-add (drop 16 x.bytes) (payload_of xs) (496 * i))
     ∙ part_at xs i d tail (omega arith)
 
-sector_is : (item : LogRecord) (i : ℕ) → sector_of (stamps (item.position + i) item.position ++ take 496 (drop (496 * i) (payload item))) ≡ sector_at item i
-unfolding sector_at
+sector_is : (item : LogRecord) (i : ℕ) → sector_of (stamps (item.position + i) item.position ++ take 496 (drop (496 * i) (payload item))) ≡ record_sector item i
+unfolding record_sector
 sector_is item i = refl
 
 -- the sectors of a record are told by their stamps and their payload
 pub encoded_from_parts : (xs : List Sector) (item : LogRecord) → length xs ≡ sector_count (length item.images)
-    → AreSectors xs → HasStamps item.position xs → payload_of xs ≡ payload item → xs ≡ encoded item
-unfolding encoded
+    → AreSectors xs → HasStamps item.position xs → payload_of xs ≡ payload item → xs ≡ encoded_record item
+unfolding encoded_record
 encoded_from_parts xs item count whole stamped same =
     let none : Sector = record { bytes = [] } in
-    fill_by_all (sector_at item) xs (sector_count (length item.images)) none count
+    fill_by_all (record_sector item) xs (sector_count (length item.images)) none count
     (λ k h.
     let within : k < length xs = omega arith in
     let x = get_or xs k none in
@@ -121,14 +122,14 @@ pub stamped_is : (position first : ℕ)
 unfolding stamps
 stamped_is position first = refl
 
--- the header of a record
+-- the record_header of a record
 abbrev pub header_of : LogRecord → List ℕ
-header_of item = header item.tail item.first item.commits (length item.images)
+header_of item = record_header item.tail item.first item.commits (length item.images)
 
--- the fields of a header, written one after the other
+-- the fields of a record_header, written one after the other
 pub header_is : (tail first commits images : ℕ) → with_field 4 24 (sector_count images) (with_field 4 20 images
-    (with_field 4 16 commits (with_field 8 8 first (with_field 8 0 tail (replicate 32 0))))) ≡ header tail first commits images
-unfolding header
+    (with_field 4 16 commits (with_field 8 8 first (with_field 8 0 tail (replicate 32 0))))) ≡ record_header tail first commits images
+unfolding record_header
 header_is tail first commits images = refl
 
 -- the next image put behind those before it

@@ -5,25 +5,25 @@ use Rattle.std.proofs.lemmas.List.{take_at, drop_at}
 use Rattle.byteorder.specs.Numbers.{big_number-reads_back}
 use Rattle.life_bytes.specs.Fields.{field}
 use Rattle.log_record.specs.declared.image.Image.{Image}
-use Rattle.log_record.specs.Encoding.{FitsImage, header, image_bytes}
+use Rattle.log_record.specs.Encoding.{FitsImage, record_header, image_bytes}
 use Rattle.log_record.proofs.Encoded.{length-image_bytes}
 
--- each number of a header is read where it stands
-pub header_tail : (t f c m : ℕ) → t < 2 ^ 64 → field 8 0 (header t f c m) ≡ t
-unfolding header
-header_tail t f c m h = big_number-reads_back 8 t (drop 8 (header t f c m)) h
+-- each number of a record_header is read where it stands
+pub header_tail : (t f c m : ℕ) → t < 2 ^ 64 → field 8 0 (record_header t f c m) ≡ t
+unfolding record_header
+header_tail t f c m h = big_number-reads_back 8 t (drop 8 (record_header t f c m)) h
 
-pub header_first : (t f c m : ℕ) → f < 2 ^ 64 → field 8 8 (header t f c m) ≡ f
-unfolding header
-header_first t f c m h = big_number-reads_back 8 f (drop 16 (header t f c m)) h
+pub header_first : (t f c m : ℕ) → f < 2 ^ 64 → field 8 8 (record_header t f c m) ≡ f
+unfolding record_header
+header_first t f c m h = big_number-reads_back 8 f (drop 16 (record_header t f c m)) h
 
-pub header_commits : (t f c m : ℕ) → c < 2 ^ 32 → field 4 16 (header t f c m) ≡ c
-unfolding header
-header_commits t f c m h = big_number-reads_back 4 c (drop 20 (header t f c m)) h
+pub header_commits : (t f c m : ℕ) → c < 2 ^ 32 → field 4 16 (record_header t f c m) ≡ c
+unfolding record_header
+header_commits t f c m h = big_number-reads_back 4 c (drop 20 (record_header t f c m)) h
 
-pub header_images : (t f c m : ℕ) → m < 2 ^ 32 → field 4 20 (header t f c m) ≡ m
-unfolding header
-header_images t f c m h = big_number-reads_back 4 m (drop 24 (header t f c m)) h
+pub header_images : (t f c m : ℕ) → m < 2 ^ 32 → field 4 20 (record_header t f c m) ≡ m
+unfolding record_header
+header_images t f c m h = big_number-reads_back 4 m (drop 24 (record_header t f c m)) h
 
 -- an image is told by its bytes
 pub image_bytes-injective : (x y : Image) → FitsImage x → FitsImage y → image_bytes x ≡ image_bytes y → x ≡ y

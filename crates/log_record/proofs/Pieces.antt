@@ -4,7 +4,8 @@ use Rattle.std.proofs.Math.Seq.{take-append-add, drop-append-add}
 use Rattle.std.proofs.lemmas.List.{take-append-le, drop-append-le, drop-drop, drop-take, take-take, map-set, set-get_or, get_or-map, length-drop, length-append, take_at, length-take-le, drop_at}
 use Rattle.life_bytes.specs.Fields.{with_piece}
 use Rattle.life_bytes.specs.declared.sector.Sector.{Sector}
-use Rattle.log_record.specs.Payload.{payload_of, stamps_of, AreSectors}
+use Rattle.life_bytes.specs.Sectors.{AreSectors}
+use Rattle.log_record.specs.Payload.{payload_of, stamps_of}
 
 -- a piece put behind a front
 pub with_piece-append : (front rest piece : List ℕ) (n at : ℕ)

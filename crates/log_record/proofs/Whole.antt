@@ -6,13 +6,14 @@ use Rattle.std.proofs.lemmas.List.{take_at, drop_at, take-append-drop, take_all,
 use Rattle.std.proofs.lemmas.List.FromFn.{get_or-map-range_with_len}
 use Rattle.life_bytes.specs.Fields.{field}
 use Rattle.life_bytes.specs.declared.sector.Sector.{Sector}
+use Rattle.life_bytes.specs.Sectors.{AreSectors}
 use Rattle.log_record.specs.declared.image.Image.{Image}
 use Rattle.log_record.specs.declared.record.LogRecord.{LogRecord}
 use Rattle.log_record.specs.Whole.{at_place, IsWholeAt}
 use Rattle.log_record.specs.declared.read.Header.{Header}
-use Rattle.log_record.specs.Outline.{HasOutline, HasRoom, IsHeader, IsStamped, filling, header_bytes}
-use Rattle.log_record.specs.Payload.{payload_of, stamps_of, AreSectors, HasStamps, window, HoldsPayload}
-use Rattle.log_record.specs.Encoding.{FitsImage, IsRecord, FitsFields, header, image_bytes, payload, sector_at, sector_count, encoded, stamps}
+use Rattle.log_record.specs.Outline.{HasOutline, HasRoom, IsRecordHeader, IsStamped, filling, header_bytes}
+use Rattle.log_record.specs.Payload.{payload_of, stamps_of, HasStamps, window, HoldsPayload}
+use Rattle.log_record.specs.Encoding.{FitsImage, IsRecord, FitsFields, record_header, image_bytes, payload, record_sector, sector_count, encoded_record, stamps}
 use Rattle.log_record.proofs.Encoded.{header_of, length-header, length-images, length-stamps, part_at, encoded_from_parts}
 use Rattle.log_record.proofs.Images.{header_tail, header_first, header_commits, header_images, images-injective}
 use Rattle.log_record.proofs.Window.{none, length-window, get_or-window, whole_window, stamps_of_window, HoldsPayload-append}
@@ -68,18 +69,18 @@ payload_zeros item fits =
     ∙ drop_at (flat_map image_bytes item.images) zeros (520 * m) (length-images item.images fits.images)
 
 -- the parts of a record's sector
-pub sector_stamps : (item : LogRecord) (i : ℕ) → stamps_of (sector_at item i) ≡ stamps (item.position + i) item.position
-unfolding sector_at
+pub sector_stamps : (item : LogRecord) (i : ℕ) → stamps_of (record_sector item i) ≡ stamps (item.position + i) item.position
+unfolding record_sector
 sector_stamps item i =
     take_at (stamps (item.position + i) item.position) (take 496 (drop (496 * i) (payload item))) 16 (length-stamps (item.position + i) item.position)
 
-pub sector_part : (item : LogRecord) (i : ℕ) → drop 16 (sector_at item i).bytes ≡ take 496 (drop (496 * i) (payload item))
-unfolding sector_at
+pub sector_part : (item : LogRecord) (i : ℕ) → drop 16 (record_sector item i).bytes ≡ take 496 (drop (496 * i) (payload item))
+unfolding record_sector
 sector_part item i =
     drop_at (stamps (item.position + i) item.position) (take 496 (drop (496 * i) (payload item))) 16 (length-stamps (item.position + i) item.position)
 
-pub sector_size : (item : LogRecord) (i : ℕ) → FitsFields item → i < count_of item → length (sector_at item i).bytes ≡ 512
-unfolding sector_at
+pub sector_size : (item : LogRecord) (i : ℕ) → FitsFields item → i < count_of item → length (record_sector item i).bytes ≡ 512
+unfolding record_sector
 sector_size item i fits within =
     let all = length-payload item fits in
     let rest : length (drop (496 * i) (payload item)) ≡ length (payload item) - 496 * i = length-drop (496 * i) (payload item) in
@@ -136,7 +137,7 @@ whole_holds ring position item at bytes is held fits =
     ap (λ (l : List ℕ). take (length bytes) (drop at l)) (sym (whole_payload ring position item is))
     ∙ held (count_of item) (whole_sectors ring position item is) fits
 
--- the numbers of a record's header
+-- the numbers of a record's record_header
 pub record HasHeader (item : LogRecord) (t f c m : ℕ) : Type 0 where
   pub tail : item.tail ≡ t
   pub first : item.first ≡ f
@@ -144,7 +145,7 @@ pub record HasHeader (item : LogRecord) (t f c m : ℕ) : Type 0 where
   pub images : length item.images ≡ m
 
 pub same_header : (item : LogRecord) (t f c m : ℕ) → IsRecord item → FitsFields item → t < 2 ^ 64 → f < 2 ^ 64 → c < 2 ^ 32 → m < 2 ^ 32
-    → header_of item ≡ header t f c m → HasHeader item t f c m
+    → header_of item ≡ record_header t f c m → HasHeader item t f c m
 same_header item t f c m form fits ht hf hc hm same =
     let i = length item.images in
     let tail : item.tail < 2 ^ 64 = omega (arith, form.tail, form.positions) in
@@ -186,9 +187,9 @@ whole_zeros ring position item bytes is size held =
 pub any_default : (ring : List Sector) (position : ℕ) (d e : Sector) → 0 < length ring → at_place ring position d ≡ at_place ring position e
 any_default ring position d e some = get_or_default ring (position % length ring) d e (omega arith)
 
-pub get_or-encoded : (item : LogRecord) (i : ℕ) (d : Sector) → i < count_of item → get_or (encoded item) i d ≡ sector_at item i
-unfolding encoded
-get_or-encoded item i d within = get_or-map-range_with_len (sector_at item) 0 (count_of item) i i d within (omega arith)
+pub get_or-encoded : (item : LogRecord) (i : ℕ) (d : Sector) → i < count_of item → get_or (encoded_record item) i d ≡ record_sector item i
+unfolding encoded_record
+get_or-encoded item i d within = get_or-map-range_with_len (record_sector item) 0 (count_of item) i i d within (omega arith)
 
 -- a record whose sectors have its stamps and its payload is whole
 pub whole_from_parts : (ring : List Sector) (item : LogRecord) → IsRecord item → FitsFields item
@@ -202,7 +203,7 @@ whole_from_parts ring item form fits room whole stamped held =
     Rattle.log_record.proofs.Pieces.length-payload_of w whole ∙ ap (λ (k : ℕ). 496 * k) (length-window ring item.position (count_of item)) in
     let same : payload_of w ≡ payload item =
     sym (take_all (length (payload item)) (payload_of w) (omega arith)) ∙ held (count_of item) whole (omega arith) in
-    let is : w ≡ encoded item = encoded_from_parts w item (length-window ring item.position (count_of item)) whole stamped same in
+    let is : w ≡ encoded_record item = encoded_from_parts w item (length-window ring item.position (count_of item)) whole stamped same in
     record {
       begins = refl;
       form = form;
@@ -212,20 +213,20 @@ whole_from_parts ring item form fits room whole stamped held =
           ∙ ap (λ (l : List Sector). get_or l i none) is ∙ get_or-encoded item i none h;
     }
 
--- a whole record's header, as its bytes were read
+-- a whole record's record_header, as its bytes were read
 pub whole_numbers : (ring : List Sector) (position : ℕ) (item : LogRecord) (bytes : List ℕ) (h : Header) → IsWholeAt ring position item
-    → HoldsPayload ring position 0 bytes → length bytes ≡ 32 → bytes ≡ header_bytes h → IsHeader h
+    → HoldsPayload ring position 0 bytes → length bytes ≡ 32 → bytes ≡ header_bytes h → IsRecordHeader h
     → HasHeader item h.tail h.first h.commits h.images
 whole_numbers ring position item bytes h is held size same form =
     let images : h.images < 2 ^ 32 = omega (arith, form.images) in
     same_header item h.tail h.first h.commits h.images is.form is.fits form.tail form.first form.commits images
     (whole_header ring position item bytes is held size ∙ same)
 
--- the numbers of a record's header
+-- the numbers of a record's record_header
 abbrev pub header_from : LogRecord → Header
 header_from item = record { tail = item.tail; first = item.first; commits = item.commits; images = length item.images }
 
-pub header_from-is : (item : LogRecord) → IsRecord item → FitsFields item → IsHeader (header_from item)
+pub header_from-is : (item : LogRecord) → IsRecord item → FitsFields item → IsRecordHeader (header_from item)
 header_from-is item form fits = record {
   tail = omega (arith, form.tail, form.positions);
   first = fits.first;
@@ -257,7 +258,7 @@ homes_of images = map (λ (image : Image). image.home) images
 abbrev pub read_as : ℕ → Header → List Image → LogRecord
 read_as position h images = record { position = position; tail = h.tail; first = h.first; commits = h.commits; images = images }
 
--- the header, the images and the filling are the payload
+-- the record_header, the images and the filling are the payload
 pub payload_held : (ring : List Sector) (position : ℕ) (h : Header) (images : List Image) → length images ≡ h.images → All FitsImage images
     → HoldsPayload ring position 0 (header_bytes h) → HoldsPayload ring position 32 (flat_map image_bytes images)
     → HoldsPayload ring position (32 + 520 * h.images) (filling h.images)
@@ -268,7 +269,7 @@ payload_held ring position h images count all head middle end =
     let m = length images in
     let size : length flat ≡ 520 * m = length-images images all in
     let width : length (header_of item) ≡ 32 = length-header h.tail h.first h.commits m in
-    let Head : ℕ → Type 0 = λ k. HoldsPayload ring position 0 (header h.tail h.first h.commits k) in
+    let Head : ℕ → Type 0 = λ k. HoldsPayload ring position 0 (record_header h.tail h.first h.commits k) in
     let End : ℕ → Type 0 = λ k. HoldsPayload ring position (32 + 520 * k) (filling k) in
     let EndAt : ℕ → Type 0 = λ k. HoldsPayload ring position (32 + k) (filling m) in
     let MiddleAt : ℕ → Type 0 = λ k. HoldsPayload ring position (0 + k) (flat ++ filling m) in

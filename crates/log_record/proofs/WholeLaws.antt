@@ -11,25 +11,25 @@ use Rattle.log_record.specs.declared.image.Image.{Image}
 use Rattle.log_record.specs.declared.record.LogRecord.{LogRecord}
 use Rattle.log_record.specs.Whole.{at_place, IsWholeAt}
 use Rattle.log_record.specs.Payload.{payload_of, window}
-use Rattle.log_record.specs.Encoding.{IsRecord, FitsFields, image_bytes, payload, sector_at, sector_count, encoded, stamps}
+use Rattle.log_record.specs.Encoding.{IsRecord, FitsFields, image_bytes, payload, record_sector, sector_count, encoded_record, stamps}
 use Rattle.log_record.proofs.Encoded.{header_of}
 use Rattle.log_record.proofs.Images.{images-injective}
 use Rattle.log_record.proofs.Window.{none}
 use Rattle.log_record.proofs.Whole.{HasHeader, count_of, get_or-encoded, payload_header, payload_images, same_header, sector_part, whole_payload, whole_stamps}
 
-pub length-encoded : (item : LogRecord) → length (encoded item) ≡ sector_count (length item.images)
-unfolding encoded
-length-encoded item = length-map-range_with_len (sector_at item) 0 (count_of item)
+pub length-encoded : (item : LogRecord) → length (encoded_record item) ≡ sector_count (length item.images)
+unfolding encoded_record
+length-encoded item = length-map-range_with_len (record_sector item) 0 (count_of item)
 
 -- where a record is whole behind the first sector of another, the first parts of their payloads are the same
-same_first_part : (ring : List Sector) (position : ℕ) (a b : LogRecord) → ((d : Sector) → at_place ring (position + 0) d ≡ sector_at a 0)
+same_first_part : (ring : List Sector) (position : ℕ) (a b : LogRecord) → ((d : Sector) → at_place ring (position + 0) d ≡ record_sector a 0)
     → IsWholeAt ring position b → take 496 (drop (496 * 0) (payload a)) ≡ take 496 (drop (496 * 0) (payload b))
 same_first_part ring position a b first isb =
     sym (sector_part a 0) ∙ ap (λ (s : Sector). drop 16 s.bytes) (sym (first none) ∙ isb.sectors 0 none (omega arith))
     ∙ sector_part b 0
 
 same_headers : (ring : List Sector) (position : ℕ) (a b : LogRecord) → IsRecord a → FitsFields a
-    → ((d : Sector) → at_place ring (position + 0) d ≡ sector_at a 0) → IsWholeAt ring position b
+    → ((d : Sector) → at_place ring (position + 0) d ≡ record_sector a 0) → IsWholeAt ring position b
     → HasHeader a b.tail b.first b.commits (length b.images)
 same_headers ring position a b form fits first isb =
     let le : 32 ≤ 496 = omega arith in
@@ -43,7 +43,7 @@ same_headers ring position a b form fits first isb =
 
 -- the first sector of a record tells how many images it has
 pub first-counts : (ring : List Sector) (position : ℕ) (a b : LogRecord) → IsRecord a → FitsFields a
-    → ((d : Sector) → at_place ring position d ≡ sector_at a 0) → IsWholeAt ring position b → length a.images ≡ length b.images
+    → ((d : Sector) → at_place ring position d ≡ record_sector a 0) → IsWholeAt ring position b → length a.images ≡ length b.images
 first-counts ring position a b form fits first isb =
     (same_headers ring position a b form fits (λ d. ap (λ (p : ℕ). at_place ring p d) (omega arith) ∙ first d) isb).images
 
@@ -69,7 +69,7 @@ whole-unique ring position a b isa isb =
 -- a record that stands in its places, in a ring that has room for it, is whole
 pub whole_from_encoded : (ring : List Sector) (item : LogRecord) → IsRecord item → FitsFields item
     → item.position + sector_count (length item.images) - item.tail ≤ length ring
-    → ((i : ℕ) (d : Sector) → i < length (encoded item) → at_place ring (item.position + i) d ≡ get_or (encoded item) i d)
+    → ((i : ℕ) (d : Sector) → i < length (encoded_record item) → at_place ring (item.position + i) d ≡ get_or (encoded_record item) i d)
     → IsWholeAt ring item.position item
 whole_from_encoded ring item form fits room stands = record {
   begins = refl;

@@ -8,9 +8,10 @@ use Rattle.std.proofs.lemmas.Slice.{take-put_mid}
 use borrow.Rule.Slice.PartMut.{put_mid}
 use Rattle.std.proofs.lemmas.List.FromFn.{length-map-range_with_len, get_or-map-range_with_len}
 use Rattle.life_bytes.specs.declared.sector.Sector.{Sector}
+use Rattle.life_bytes.specs.Sectors.{AreSectors}
 use Rattle.log_record.specs.declared.image.Image.{Image}
 use Rattle.log_record.specs.Whole.{at_place}
-use Rattle.log_record.specs.Payload.{payload_of, stamps_of, AreSectors, HasStamps, window, HoldsPayload}
+use Rattle.log_record.specs.Payload.{payload_of, stamps_of, HasStamps, window, HoldsPayload}
 use Rattle.log_record.specs.Encoding.{FitsImage, image_bytes, stamps}
 use Rattle.log_record.proofs.Encoded.{length-images, part_at}
 

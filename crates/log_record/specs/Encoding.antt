@@ -1,4 +1,4 @@
--- How a record of the log is encoded: as a list of log sectors.
+-- How a record of the log is encoded_record: as a list of log sectors.
 use Rattle.std.specs.Prelude.{ℕ, ◌+◌, ◌*◌, ◌-◌, ◌/◌, ◌^◌, ◌<◌, ◌≤◌, ◌≡◌, List, ◌++◌, length, take, drop, map, replicate}
 use Rattle.std.specs.List.{flat_map, range_with_len, All}
 use Rattle.std.specs.List.Sorted.{IsStrictlyIncreasing}
@@ -9,13 +9,13 @@ use Rattle.life_bytes.specs.declared.sector.Sector.{Sector}
 use Rattle.log_record.specs.declared.image.Image.{Image}
 use Rattle.log_record.specs.declared.record.LogRecord.{LogRecord}
 
--- the sectors of a record of m images: 32 bytes of header and 520 for each image, 496 in a sector, rounded up
+-- the sectors of a record of m images: 32 bytes of record_header and 520 for each image, 496 in a sector, rounded up
 abbrev pub sector_count : ℕ → ℕ
 sector_count m = (32 + 520 * m + 495) / 496
 
 -- the tail, the first commit number, the numbers of commits, images and sectors, and a zero
-unfoldable pub header : ℕ → ℕ → ℕ → ℕ → List ℕ
-header tail first commits images =
+unfoldable pub record_header : ℕ → ℕ → ℕ → ℕ → List ℕ
+record_header tail first commits images =
     big_bytes 8 tail ++ (big_bytes 8 first ++ (big_bytes 4 commits ++ (big_bytes 4 images
     ++ (big_bytes 4 (sector_count images) ++ big_bytes 4 0))))
 
@@ -23,11 +23,11 @@ header tail first commits images =
 unfoldable pub image_bytes : Image → List ℕ
 image_bytes image = big_bytes 8 image.home ++ image.sector.bytes
 
--- the header, the images, and zero to the end of the last sector
+-- the record_header, the images, and zero to the end of the last sector
 unfoldable pub payload : LogRecord → List ℕ
 payload item =
     let m = length item.images in
-    header item.tail item.first item.commits m
+    record_header item.tail item.first item.commits m
     ++ (flat_map image_bytes item.images ++ replicate (496 * sector_count m - (32 + 520 * m)) 0)
 
 -- what a log sector has before its payload: its position, and the position of its record's first sector
@@ -35,12 +35,12 @@ unfoldable pub stamps : ℕ → ℕ → List ℕ
 stamps position first = big_bytes 8 position ++ big_bytes 8 first
 
 -- the sector of a record at an index: its stamps, and the 496 bytes of the record's payload that are its part
-unfoldable pub sector_at : LogRecord → ℕ → Sector
-sector_at item i = record { bytes = stamps (item.position + i) item.position ++ take 496 (drop (496 * i) (payload item)) }
+unfoldable pub record_sector : LogRecord → ℕ → Sector
+record_sector item i = record { bytes = stamps (item.position + i) item.position ++ take 496 (drop (496 * i) (payload item)) }
 
 -- the sectors of a record
-unfoldable pub encoded : LogRecord → List Sector
-encoded item = map (sector_at item) (range_with_len 0 (sector_count (length item.images)))
+unfoldable pub encoded_record : LogRecord → List Sector
+encoded_record item = map (record_sector item) (range_with_len 0 (sector_count (length item.images)))
 
 -- what a record has to be: no more images than one may have, whose homes ascend and none stands twice, a tail that is not
 -- above its position, and sectors whose positions are numbers of 64 bits

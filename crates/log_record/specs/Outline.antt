@@ -2,13 +2,14 @@
 use Rattle.std.specs.Prelude.{ℕ, ◌≡◌, ◌<◌, ◌≤◌, ◌+◌, ◌-◌, ◌*◌, ◌^◌, List, length, replicate}
 use Rattle.life_limits.specs.declared.TheConstants.{MAX_IMAGES}
 use Rattle.life_bytes.specs.declared.sector.Sector.{Sector}
+use Rattle.life_bytes.specs.Sectors.{AreSectors}
 use Rattle.log_record.specs.declared.read.Header.{Header}
-use Rattle.log_record.specs.Encoding.{header, sector_count, stamps}
+use Rattle.log_record.specs.Encoding.{record_header, sector_count, stamps}
 use Rattle.log_record.specs.Whole.{at_place}
-use Rattle.log_record.specs.Payload.{stamps_of, AreSectors, window, HoldsPayload}
+use Rattle.log_record.specs.Payload.{stamps_of, window, HoldsPayload}
 
 -- a header's numbers are ones that a record can have
-pub record IsHeader (h : Header) : Type 0 where
+pub record IsRecordHeader (h : Header) : Type 0 where
   pub tail : h.tail < 2 ^ 64
   pub first : h.first < 2 ^ 64
   pub commits : h.commits < 2 ^ 32
@@ -16,9 +17,9 @@ pub record IsHeader (h : Header) : Type 0 where
 
 -- a header's bytes
 abbrev pub header_bytes : Header → List ℕ
-header_bytes h = header h.tail h.first h.commits h.images
+header_bytes h = record_header h.tail h.first h.commits h.images
 
--- a record with this header at this position has room in a ring of so many sectors
+-- a record with this record_header at this position has room in a ring of so many sectors
 pub record HasRoom (h : Header) (position ring : ℕ) : Type 0 where
   pub tail : h.tail ≤ position
   pub positions : position + sector_count h.images ≤ 2 ^ 64
@@ -35,9 +36,9 @@ filling images = replicate (496 * sector_count images - (32 + 520 * images)) 0
 
 -- all of a record but its images stands at a position of a ring
 pub record HasOutline (ring : List Sector) (position : ℕ) (h : Header) : Type 0 where
-  pub form : IsHeader h
+  pub form : IsRecordHeader h
   pub room : HasRoom h position (length ring)
   pub whole : AreSectors (window ring position (sector_count h.images))
   pub stamped : IsStamped ring position (sector_count h.images)
-  pub header : HoldsPayload ring position 0 (header_bytes h)
+  pub record_header : HoldsPayload ring position 0 (header_bytes h)
   pub filling : HoldsPayload ring position (32 + 520 * h.images) (filling h.images)

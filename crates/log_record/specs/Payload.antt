@@ -2,6 +2,7 @@
 use Rattle.std.specs.Prelude.{ℕ, ◌+◌, ◌*◌, ◌<◌, ◌≤◌, ◌≡◌, List, [], length, map, take, drop, slice_index_or}
 use Rattle.std.specs.List.{flat_map, range_with_len, All}
 use Rattle.life_bytes.specs.declared.sector.Sector.{Sector}
+use Rattle.life_bytes.specs.Sectors.{AreSectors}
 use Rattle.log_record.specs.Encoding.{stamps}
 use Rattle.log_record.specs.Whole.{at_place}
 
@@ -16,10 +17,6 @@ part_of sector = drop 16 sector.bytes
 -- the payload of several sectors, one behind the other
 unfoldable pub payload_of : List Sector → List ℕ
 payload_of sectors = flat_map part_of sectors
-
--- each is a whole sector
-abbrev pub AreSectors : List Sector → Type 0
-AreSectors sectors = All (λ sector. length sector.bytes ≡ 512) sectors
 
 -- each has the stamps of its place in the record at a position
 abbrev pub HasStamps : ℕ → List Sector → Type 0

@@ -2,7 +2,7 @@
 use Rattle.std.specs.Prelude.{ℕ, ◌≡◌, ◌<◌, ◌≤◌, ◌+◌, ◌-◌, ◌%◌, List, length, slice_index_or}
 use Rattle.life_bytes.specs.declared.sector.Sector.{Sector}
 use Rattle.log_record.specs.declared.record.LogRecord.{LogRecord}
-use Rattle.log_record.specs.Encoding.{IsRecord, FitsFields, sector_at, sector_count}
+use Rattle.log_record.specs.Encoding.{IsRecord, FitsFields, record_sector, sector_count}
 
 -- the sector of a ring at the place of a position, and d where the ring has none
 abbrev pub at_place : List Sector → ℕ → Sector → Sector
@@ -15,7 +15,7 @@ pub record IsWholeAt (ring : List Sector) (position : ℕ) (item : LogRecord) : 
   pub form : IsRecord item
   pub fits : FitsFields item
   pub room : position + sector_count (length item.images) - item.tail ≤ length ring
-  pub sectors : (i : ℕ) (d : Sector) → i < sector_count (length item.images) → at_place ring (position + i) d ≡ sector_at item i
+  pub sectors : (i : ℕ) (d : Sector) → i < sector_count (length item.images) → at_place ring (position + i) d ≡ record_sector item i
 
 -- no record is whole there
 abbrev pub NoneWholeAt : List Sector → ℕ → Type 0

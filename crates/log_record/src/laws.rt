@@ -2,7 +2,7 @@
 ghost use Rattle.std.specs.Prelude.{◌≡◌, ◌≤◌, ◌<◌, ◌+◌, ◌-◌, ℕ, List, length, slice_index_or};
 ghost use Rattle.life_bytes.specs.Fields.{field};
 ghost use Rattle.life_bytes.specs.declared.sector.Sector.{Sector};
-ghost use Rattle.log_record.specs.Encoding.{FitsFields, IsRecord, sector_at, sector_count, encoded};
+ghost use Rattle.log_record.specs.Encoding.{FitsFields, IsRecord, record_sector, sector_count, encoded_record};
 ghost use Rattle.log_record.specs.Whole.{IsWholeAt, at_place};
 ghost use Rattle.log_record.specs.declared.record.LogRecord.{LogRecord};
 
@@ -14,7 +14,7 @@ pub fn whole_records()
         → IsWholeAt ring position a → IsWholeAt ring position b → a ≡ b }
     ensures written { (ring : List Sector) (item : LogRecord) → IsRecord item → FitsFields item
         → item.position + sector_count (length item.images) - item.tail ≤ length ring
-        → ((i : ℕ) (d : Sector) → i < length (encoded item) → at_place ring (item.position + i) d ≡ slice_index_or (encoded item) i d)
+        → ((i : ℕ) (d : Sector) → i < length (encoded_record item) → at_place ring (item.position + i) d ≡ slice_index_or (encoded_record item) i d)
         → IsWholeAt ring item.position item }
     ensures places { (ring other : List Sector) (position : ℕ) (item : LogRecord) → length other ≡ length ring
         → ((i : ℕ) (d : Sector) → i < sector_count (length item.images) → at_place other (position + i) d ≡ at_place ring (position + i) d)
@@ -23,5 +23,5 @@ pub fn whole_records()
         → i < sector_count (length item.images)
         → (field 8 0 (at_place ring (position + i) d).bytes ≡ position + i) × (field 8 8 (at_place ring (position + i) d).bytes ≡ position) }
     ensures counted { (ring : List Sector) (position : ℕ) (a b : LogRecord) → IsRecord a → FitsFields a
-        → ((d : Sector) → at_place ring position d ≡ sector_at a 0) → IsWholeAt ring position b → length a.images ≡ length b.images }
+        → ((d : Sector) → at_place ring position d ≡ record_sector a 0) → IsWholeAt ring position b → length a.images ≡ length b.images }
 {}

@@ -5,9 +5,10 @@ ghost use Rattle.std.specs.List.Sorted.{IsStrictlyIncreasing};
 ghost use Rattle.life_limits.specs.declared.TheConstants.{MAX_IMAGES, MAX_RECORD_SECTORS};
 ghost use Rattle.life_bytes.specs.Fields.{AreBytes};
 ghost use Rattle.life_bytes.specs.declared.sector.Sector.{Sector};
-ghost use Rattle.log_record.specs.Outline.{HasOutline, HasRoom, IsHeader, IsStamped, filling, header_bytes};
-ghost use Rattle.log_record.specs.Payload.{AreSectors, HoldsPayload, stamps_of, window};
-ghost use Rattle.log_record.specs.Encoding.{FitsImage, header, image_bytes, sector_count, stamps};
+ghost use Rattle.life_bytes.specs.Sectors.{AreSectors};
+ghost use Rattle.log_record.specs.Outline.{HasOutline, HasRoom, IsRecordHeader, IsStamped, filling, header_bytes};
+ghost use Rattle.log_record.specs.Payload.{HoldsPayload, stamps_of, window};
+ghost use Rattle.log_record.specs.Encoding.{FitsImage, record_header, image_bytes, sector_count, stamps};
 ghost use Rattle.log_record.specs.Whole.{IsWholeAt, NoneWholeAt, at_place};
 
 use crate::image::{Image, ImageList};
@@ -58,8 +59,8 @@ fn copy_payload(ring: &[Sector], position: u64, at: usize, into: &mut [u8])
 /// The header that is encoded by the first bytes of a payload.
 fn parse_header(bytes: &[u8; HEADER]) -> Option<Header>
     ensures some { IfSome result (λ h. bytes.now ≡ header_bytes h) }
-    ensures form { IfSome result IsHeader }
-    ensures none { IfNone result ((h : Header) → IsHeader h → bytes.now ≡ header_bytes h → ⊥) }
+    ensures form { IfSome result IsRecordHeader }
+    ensures none { IfNone result ((h : Header) → IsRecordHeader h → bytes.now ≡ header_bytes h → ⊥) }
 {
     let found = Header {
         tail: field_u64(bytes, 0),
@@ -76,8 +77,8 @@ fn parse_header(bytes: &[u8; HEADER]) -> Option<Header>
 
 /// Whether a record with this header has room in a ring of so many sectors.
 fn has_room(header: &Header, position: u64, ring: usize) -> bool
-    requires { header.now.images ≤ MAX_IMAGES }
-    ensures { IsTrue result ↔ HasRoom header.now position ring }
+    requires { record_header.now.images ≤ MAX_IMAGES }
+    ensures { IsTrue result ↔ HasRoom record_header.now position ring }
 {
     let count = u64::from(record_sectors(header.images));
     let ring = ring as u64;

@@ -4,9 +4,10 @@ ghost use Rattle.std.specs.List.{range_with_len, All};
 ghost use Rattle.life_limits.specs.declared.TheConstants.{MAX_IMAGES};
 ghost use Rattle.life_bytes.specs.Fields.{with_piece, AreBytes};
 ghost use Rattle.life_bytes.specs.declared.sector.Sector.{Sector};
-ghost use Rattle.log_record.specs.Payload.{payload_of, stamps_of, AreSectors, HasStamps};
+ghost use Rattle.life_bytes.specs.Sectors.{AreSectors};
+ghost use Rattle.log_record.specs.Payload.{payload_of, stamps_of, HasStamps};
 ghost use Rattle.log_record.specs.Numbers.{record_of};
-ghost use Rattle.log_record.specs.Encoding.{FitsImage, IsRecord, FitsFields, header, image_bytes, sector_count, encoded, stamps};
+ghost use Rattle.log_record.specs.Encoding.{FitsImage, IsRecord, FitsFields, record_header, image_bytes, sector_count, encoded_record, stamps};
 
 use crate::image::Image;
 use crate::record::{HEADER, IMAGE, LogRecord, PAYLOAD, RecordNumbers, STAMPS, record_sectors};
@@ -49,7 +50,7 @@ fn stamp_all(into: &mut [Sector], position: u64)
 /// The first bytes of the payload of a record with these numbers.
 pub(crate) fn header_bytes(tail: u64, first: u64, commits: u32, images: u32) -> [u8; HEADER]
     requires { images ≤ MAX_IMAGES }
-    ensures { result ≡ header tail first commits images }
+    ensures { result ≡ record_header tail first commits images }
 {
     let mut bytes = [0; HEADER];
     put_u64(&mut bytes, 0, tail);
@@ -109,7 +110,7 @@ fn put_image(into: &mut [Sector], at: usize, image: &Image)
 pub fn fill_images(numbers: &RecordNumbers, images: &[Image], into: &mut [Sector])
     requires form { IsRecord (record_of numbers.now images.now) }
     requires room { length into.old ≡ sector_count (length images.now) }
-    ensures encoded { into.new ≡ encoded (record_of numbers.now images.now) }
+    ensures encoded_record { into.new ≡ encoded_record (record_of numbers.now images.now) }
     ensures fits { FitsFields (record_of numbers.now images.now) }
 {
     stamp_all(into, numbers.position);
@@ -131,7 +132,7 @@ pub fn fill_images(numbers: &RecordNumbers, images: &[Image], into: &mut [Sector
 pub fn fill_record(item: &LogRecord, into: &mut [Sector])
     requires form { IsRecord item.now }
     requires room { length into.old ≡ sector_count (length item.now.images) }
-    ensures encoded { into.new ≡ encoded item.now }
+    ensures encoded_record { into.new ≡ encoded_record item.now }
     ensures fits { FitsFields item.now }
 {
     let numbers = RecordNumbers {
@@ -146,7 +147,7 @@ pub fn fill_record(item: &LogRecord, into: &mut [Sector])
 /// The sectors of a record.
 pub fn record_bytes(alloc: Global, item: &LogRecord) -> Result<Vec<Sector>, NoMemory>
     requires { IsRecord item.now }
-    ensures encoded { IfOk result (λ sectors. sectors.items ≡ encoded item.now) }
+    ensures encoded_record { IfOk result (λ sectors. sectors.items ≡ encoded_record item.now) }
     ensures fits { OnOk result (FitsFields item.now) }
 {
     let count = record_sectors(item.images.len() as u32);

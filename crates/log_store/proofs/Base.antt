@@ -15,7 +15,7 @@ use Rattle.log_image.specs.OverlayLaws.{overlaid-none, overlaid-append, overlaid
 use Rattle.log_batch.specs.Newest.{IsNewestOf, commit_images}
 use Rattle.log_image.specs.Step.{AreHome}
 use Rattle.log_batch.specs.NewestLaws.{newest-put_all, none_some}
-use Rattle.log_batch.specs.Put.{put_all, Rises}
+use Rattle.log_batch.specs.Put.{put_all, KeysRise}
 use Rattle.log_store.specs.State.{State}
 use Rattle.log_store.specs.OnDisk.{AtRest, ReplaysTo, base_of}
 
@@ -66,7 +66,7 @@ rest_replays s cells image rest is =
     }
 
 -- the dirty images with those of a record over them, as the base with the commits of the record
-pub base_landed : (sectors : List Sector) (dirty batch : List Image) (commits : List Commit) → Rises (λ i. i.home) 0 dirty → IsNewestOf (commit_images commits) batch
+pub base_landed : (sectors : List Sector) (dirty batch : List Image) (commits : List Commit) → KeysRise (λ i. i.home) 0 dirty → IsNewestOf (commit_images commits) batch
     → overlaid sectors (put_all batch dirty) ≡ overlaid (overlaid sectors dirty) (commit_images commits)
 base_landed sectors dirty batch commits rises is =
     overlaid-newest sectors (put_all batch dirty) (dirty ++ commit_images commits)
@@ -115,7 +115,7 @@ option_or-nones None b is = (refl, is)
 option_or-nones (Some other) b is = absurd (none_some (sym is))
 
 -- what is dirty after a record is the newest logged image
-pub logged_landed : (home : ℕ) (sector : Sector) (batch dirty : List Image) (records : List LogRecord) (item : LogRecord) → item.images ≡ batch → Rises (λ i. i.home) 0 dirty
+pub logged_landed : (home : ℕ) (sector : Sector) (batch dirty : List Image) (records : List LogRecord) (item : LogRecord) → item.images ≡ batch → KeysRise (λ i. i.home) 0 dirty
     → ((h : ℕ) (s : Sector) → newest h dirty ≡ Some s → newest h (images_of records) ≡ Some s)
     → newest home (put_all batch dirty) ≡ Some sector → newest home (images_of (records ++ item ∷ [])) ≡ Some sector
 logged_landed home sector batch dirty records item of rises logged is =
@@ -123,7 +123,7 @@ logged_landed home sector batch dirty records item of rises logged is =
     ∙ option_or-some (newest home batch) (newest home dirty) (newest home (images_of records)) sector (logged home) (sym (newest-put_all home batch dirty rises) ∙ is)
 
 -- and what is not dirty after it was logged before it
-pub home_landed : (home : ℕ) (sector : Sector) (batch dirty : List Image) (records : List LogRecord) (item : LogRecord) → item.images ≡ batch → Rises (λ i. i.home) 0 dirty
+pub home_landed : (home : ℕ) (sector : Sector) (batch dirty : List Image) (records : List LogRecord) (item : LogRecord) → item.images ≡ batch → KeysRise (λ i. i.home) 0 dirty
     → newest home (images_of (records ++ item ∷ [])) ≡ Some sector → newest home (put_all batch dirty) ≡ None
     → (newest home (images_of records) ≡ Some sector) × (newest home dirty ≡ None)
 home_landed home sector batch dirty records item of rises newer none =

@@ -11,7 +11,7 @@ use Rattle.log_store.specs.declared.store.Job.TheVariants.{Clear, Force, Home, I
 use Rattle.log_store.specs.declared.store.Stage.{Stage}
 use Rattle.log_store.specs.declared.store.Stage.TheVariants.{Cover, Down, Free, Half, Record}
 use Rattle.log_store.specs.Calls.{DeviceCall, Made, after_gather, flush, none, write}
-use Rattle.log_store.specs.Outcome.{Covered, CoverEndsPast, EndsPast, EndsPastAt, Rises, Stays, StepMoves, goal_of}
+use Rattle.log_store.specs.Outcome.{Covered, CoverEndsPast, EndsPast, EndsPastAt, Rises, PositionsStay, StepMoves, goal_of}
 use Rattle.log_store.specs.State.{State}
 use Rattle.log_store.specs.Steps.{JobAsks, JobFits}
 
@@ -35,13 +35,13 @@ goes_home WriteBack is = absurd cc
 goes_home Nothing is = absurd cc
 goes_home Idle is = absurd cc
 
-pub stays_none : (s : State) → Stays s s
+pub stays_none : (s : State) → PositionsStay s s
 stays_none s = record { head = refl; tail = refl; durable = refl }
 
-pub stays_both : (a b d : State) → Stays a b → Stays b d → Stays a d
+pub stays_both : (a b d : State) → PositionsStay a b → PositionsStay b d → PositionsStay a d
 stays_both a b d one two = record { head = two.head ∙ one.head; tail = two.tail ∙ one.tail; durable = two.durable ∙ one.durable }
 
-pub stays_covered : (a b d : State) → Stays a b → Covered b d → Covered a d
+pub stays_covered : (a b d : State) → PositionsStay a b → Covered b d → Covered a d
 stays_covered a b d one two = record {
   head = two.head ∙ ap (λ (n : ℕ). n + 1) one.head;
   tail = two.tail ∙ one.head;
@@ -49,14 +49,14 @@ stays_covered a b d one two = record {
 }
 
 -- a step of writing back moves nothing
-pub back_stays_more : (stage : Stage) (old new : State) → JobFits stage WriteBack → StepMoves (Ok More) stage old new WriteBack → Stays old new
+pub back_stays_more : (stage : Stage) (old new : State) → JobFits stage WriteBack → StepMoves (Ok More) stage old new WriteBack → PositionsStay old new
 back_stays_more Free old new fits moves = moves
 back_stays_more Half old new fits moves = absurd fits
 back_stays_more Record old new fits moves = absurd fits
 back_stays_more Cover old new fits moves = absurd fits
 back_stays_more (Down fault) old new fits moves = absurd moves
 
-pub back_stays_ended : (stage : Stage) (old new : State) → JobFits stage WriteBack → StepMoves (Ok Ended) stage old new WriteBack → Stays old new
+pub back_stays_ended : (stage : Stage) (old new : State) → JobFits stage WriteBack → StepMoves (Ok Ended) stage old new WriteBack → PositionsStay old new
 back_stays_ended Free old new fits moves = moves.0
 back_stays_ended Half old new fits moves = absurd fits
 back_stays_ended Record old new fits moves = absurd fits
@@ -64,7 +64,7 @@ back_stays_ended Cover old new fits moves = absurd fits
 back_stays_ended (Down fault) old new fits moves = absurd moves
 
 -- a step of a home job moves nothing until the last, which flushes the cover
-pub home_stays : (stage : Stage) (old new : State) → JobFits stage Home → StepMoves (Ok More) stage old new Home → Stays old new
+pub home_stays : (stage : Stage) (old new : State) → JobFits stage Home → StepMoves (Ok More) stage old new Home → PositionsStay old new
 home_stays Free old new fits moves = moves
 home_stays Half old new fits moves = absurd fits
 home_stays Record old new fits moves = absurd fits
@@ -79,15 +79,15 @@ home_covers Cover old new fits moves = moves.0
 home_covers (Down fault) old new fits moves = absurd moves
 
 -- the same of any job that is one of them
-pub back_more : (stage : Stage) (job : Job) (old new : State) → job ≡ WriteBack → JobFits stage job → StepMoves (Ok More) stage old new job → Stays old new
+pub back_more : (stage : Stage) (job : Job) (old new : State) → job ≡ WriteBack → JobFits stage job → StepMoves (Ok More) stage old new job → PositionsStay old new
 back_more stage job old new is fits moves =
     back_stays_more stage old new (subst (λ (j : Job). JobFits stage j) is fits) (subst (λ (j : Job). StepMoves (Ok More) stage old new j) is moves)
 
-pub back_ended : (stage : Stage) (job : Job) (old new : State) → job ≡ WriteBack → JobFits stage job → StepMoves (Ok Ended) stage old new job → Stays old new
+pub back_ended : (stage : Stage) (job : Job) (old new : State) → job ≡ WriteBack → JobFits stage job → StepMoves (Ok Ended) stage old new job → PositionsStay old new
 back_ended stage job old new is fits moves =
     back_stays_ended stage old new (subst (λ (j : Job). JobFits stage j) is fits) (subst (λ (j : Job). StepMoves (Ok Ended) stage old new j) is moves)
 
-pub home_more : (stage : Stage) (job : Job) (old new : State) → job ≡ Home → JobFits stage job → StepMoves (Ok More) stage old new job → Stays old new
+pub home_more : (stage : Stage) (job : Job) (old new : State) → job ≡ Home → JobFits stage job → StepMoves (Ok More) stage old new job → PositionsStay old new
 home_more stage job old new is fits moves =
     home_stays stage old new (subst (λ (j : Job). JobFits stage j) is fits) (subst (λ (j : Job). StepMoves (Ok More) stage old new j) is moves)
 

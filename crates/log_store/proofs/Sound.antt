@@ -8,7 +8,7 @@ use Rattle.disk_model.specs.Disk.{Cell}
 use Rattle.log_record.specs.declared.image.Image.{Image}
 use Rattle.log_image.specs.Log.{IsGroupImage}
 use Rattle.log_batch.specs.NewestLaws.{none_some}
-use Rattle.log_batch.specs.Put.{Rises}
+use Rattle.log_batch.specs.Put.{KeysRise}
 use Rattle.log_batch.specs.PutLaws.{rises_lower}
 use Rattle.log_store.specs.declared.store.Stage.{Stage}
 use Rattle.log_store.specs.declared.store.Stage.TheVariants.{Free}
@@ -29,9 +29,9 @@ rest_of stage s cells free holds = subst (λ (st : Stage). HoldsAtStage st s cel
 pub held_of : (stage : Stage) (s : State) (cells : List Cell) → stage ≡ Free → AtRest s cells → HoldsAtStage stage s cells
 held_of stage s cells free rest = subst (λ (st : Stage). HoldsAtStage st s cells) (sym free) rest
 
-pub rises_rest : (xs : List Image) (x : Image) (rest : List Image) → xs ≡ x ∷ rest → Rises (λ i. i.home) 0 xs → Rises (λ i. i.home) 0 rest
+pub rises_rest : (xs : List Image) (x : Image) (rest : List Image) → xs ≡ x ∷ rest → KeysRise (λ i. i.home) 0 xs → KeysRise (λ i. i.home) 0 rest
 rises_rest xs x rest is rises =
-    let all : Rises (λ i. i.home) 0 (x ∷ rest) = subst (λ (l : List Image). Rises (λ (i : Image). i.home) 0 l) is rises in
+    let all : KeysRise (λ i. i.home) 0 (x ∷ rest) = subst (λ (l : List Image). KeysRise (λ (i : Image). i.home) 0 l) is rises in
     rises_lower (λ (i : Image). i.home) (x.home + 1) 0 rest (omega arith) all.1
 
 pub first_group : (anchor : ℕ) (xs : List Image) (x : Image) (rest : List Image) → xs ≡ x ∷ rest → All (IsGroupImage anchor) xs → IsGroupImage anchor x

@@ -4,8 +4,8 @@ use Rattle.life_bytes.specs.declared.sector.Sector.{Sector}
 use Rattle.disk_model.specs.Disk.{Arming, Cell, IsPartlyWritten, after_write, flushed, written}
 use Rattle.log_record.specs.declared.image.Image.{Image}
 use Rattle.log_record.specs.declared.image.Commit.{Commit}
-use Rattle.log_record.specs.Encoding.{sector_count, encoded}
-use Rattle.log_image.specs.Step.{place_of}
+use Rattle.log_record.specs.Encoding.{sector_count, encoded_record}
+use Rattle.log_image.specs.Step.{sector_of_position}
 use Rattle.log_image.specs.Writes.{first_part, rest_part}
 use Rattle.log_store.specs.declared.fault.Progress.{Progress}
 use Rattle.log_store.specs.declared.fault.StoreFault.{StoreFault}
@@ -43,7 +43,7 @@ home_call [] false last = last
 
 -- making room ends with a cover, of one sector at the head
 abbrev pub clear_call : State → DeviceCall
-clear_call s = home_call s.dirty s.unflushed (write (place_of s.anchor s.ring s.head) (encoded (cover_record s)))
+clear_call s = home_call s.dirty s.unflushed (write (sector_of_position s.anchor s.ring s.head) (encoded_record (cover_record s)))
 
 -- whether a record of so many images has room, with a sector to spare for a cover
 abbrev pub has_room : State → ℕ → Bool
@@ -51,7 +51,7 @@ has_room s images = nat_le ((s.head - s.tail) + sector_count images + 1) s.ring
 
 -- a record's sectors up to the ring's end, where it has room; else room is made
 abbrev pub record_call : State → DeviceCall
-record_call s = if has_room s (length s.batch) then write (place_of s.anchor s.ring s.head) (first_part s.ring (item_of s)) else clear_call s
+record_call s = if has_room s (length s.batch) then write (sector_of_position s.anchor s.ring s.head) (first_part s.ring (item_of s)) else clear_call s
 
 -- A force ends where every commit is durable.
 abbrev pub force_call : List Commit → State → DeviceCall
@@ -89,12 +89,12 @@ after_gather Nothing old new = old
 after_gather Idle old new = old
 
 -- The call of a step from one state to another. Where the positions are used up or the store is down, it makes none.
-abbrev pub call_of : Result Progress StoreFault → State → State → Job → DeviceCall
-call_of (Ok progress) old new was = call_at old.stage was (gathered old new)
-call_of (Err WriteFault) old new was = call_at old.stage was (gathered old new)
-call_of (Err FlushFault) old new was = call_at old.stage was (gathered old new)
-call_of (Err PositionEnd) old new was = none
-call_of (Err (faults.Down fault)) old new was = none
+abbrev pub device_call : Result Progress StoreFault → State → State → Job → DeviceCall
+device_call (Ok progress) old new was = call_at old.stage was (gathered old new)
+device_call (Err WriteFault) old new was = call_at old.stage was (gathered old new)
+device_call (Err FlushFault) old new was = call_at old.stage was (gathered old new)
+device_call (Err PositionEnd) old new was = none
+device_call (Err (faults.Down fault)) old new was = none
 
 -- A disk before and after the call and no other: what it holds, where that is known, and what is armed.
 abbrev pub Made : {D : Type 0} → Bool → (D → List Cell) → (D → Arming) → DeviceCall → Result Progress StoreFault → D → D → Type 0

@@ -29,8 +29,8 @@ landed s = record {
 }
 
 -- the cover is flushed
-abbrev pub covered : State → State
-covered s = record {
+abbrev pub covered_state : State → State
+covered_state s = record {
   anchor = s.anchor;
   ring = s.ring;
   head = s.head + 1;

@@ -6,10 +6,10 @@ use Rattle.disk_model.specs.Disk.{Cell, IsImage, as_read, written}
 use Rattle.log_record.specs.declared.image.Image.{Image}
 use Rattle.log_record.specs.declared.image.Commit.{Commit}
 use Rattle.log_record.specs.declared.record.LogRecord.{LogRecord}
-use Rattle.log_record.specs.Encoding.{encoded}
+use Rattle.log_record.specs.Encoding.{encoded_record}
 use Rattle.log_image.specs.Log.{AreBelow, IsLog, Log, groups_part, replayed, ring_part}
 use Rattle.log_image.specs.Overlay.{images_of, newest, overlaid}
-use Rattle.log_image.specs.Step.{AreHome, GoesOn, place_of}
+use Rattle.log_image.specs.Step.{AreHome, ExtendsLog, sector_of_position}
 use Rattle.log_image.specs.Writes.{first_part, rest_part}
 use Rattle.log_batch.specs.Newest.{IsNewestOf, commit_images}
 use Rattle.log_store.specs.declared.store.Stage.{Stage}
@@ -77,19 +77,19 @@ pub record IsTaken (list : List Commit) (taken : ℕ) (batch : List Image) : Typ
 -- The record goes on where the log ends that was there before it, and has the next commits.
 pub record Flies (s : State) (before : List Cell) : Type 0 where
   pub rest : AtRest s before
-  pub goes : GoesOn s.anchor s.ring rest.log (item_of s)
+  pub goes : ExtendsLog s.anchor s.ring rest.log (item_of s)
   pub batch : IsTaken s.list s.taken s.batch
 
 -- the disk after the first write of the record, and after both
 abbrev pub half_written : State → List Cell → List Cell
-half_written s before = written (place_of s.anchor s.ring s.head) (first_part s.ring (item_of s)) before
+half_written s before = written (sector_of_position s.anchor s.ring s.head) (first_part s.ring (item_of s)) before
 
 abbrev pub fully_written : State → List Cell → List Cell
 fully_written s before = written (s.anchor + 1) (rest_part s.ring (item_of s)) (half_written s before)
 
 -- the disk after the write of the cover
 abbrev pub cover_written : State → List Cell → List Cell
-cover_written s before = written (place_of s.anchor s.ring s.head) (encoded (cover_record s)) before
+cover_written s before = written (sector_of_position s.anchor s.ring s.head) (encoded_record (cover_record s)) before
 
 -- a cover may be written where every logged sector is home and flushed
 pub record Covers (s : State) (before : List Cell) : Type 0 where

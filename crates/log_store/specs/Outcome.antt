@@ -98,7 +98,7 @@ EndsExactly (Err FlushFault) old new was = EndsPastAt old.stage was old (length 
 EndsExactly (Err (faults.Down fault)) old new was = EndsPastAt old.stage was old (length new.batch) → ⊥
 
 -- the head, the tail and the durable number stay
-pub record Stays (old new : State) : Type 0 where
+pub record PositionsStay (old new : State) : Type 0 where
   pub head : new.head ≡ old.head
   pub tail : new.tail ≡ old.tail
   pub durable : new.durable ≡ old.durable
@@ -119,14 +119,14 @@ pub record Covered (old new : State) : Type 0 where
 -- them. A cover that was written to make room does not end the job, any other cover does, and the jobs that write one end
 -- at nothing else.
 abbrev pub StepMoves : Result Progress StoreFault → Stage → State → State → Job → Type 0
-StepMoves (Ok More) Free old new was = Stays old new
-StepMoves (Ok Ended) Free old new was = Stays old new × (Covering was → ⊥)
-StepMoves (Ok progress) Half old new was = Stays old new
+StepMoves (Ok More) Free old new was = PositionsStay old new
+StepMoves (Ok Ended) Free old new was = PositionsStay old new × (Covering was → ⊥)
+StepMoves (Ok progress) Half old new was = PositionsStay old new
 StepMoves (Ok progress) Record old new was = Lands old new
 StepMoves (Ok More) Cover old new was = Covered old new × (was ≡ Clear)
 StepMoves (Ok Ended) Cover old new was = Covered old new × (was ≡ Home)
 StepMoves (Ok progress) (Down fault) old new was = ⊥
-StepMoves (Err fault) stage old new was = Stays old new
+StepMoves (Err fault) stage old new was = PositionsStay old new
 
 -- 1 where the log is no longer than a cover: the next record pays for the cover
 abbrev pub owed : State → ℕ
@@ -150,14 +150,14 @@ Rises covers left old new =
 
 -- What a step answers, with the state and the job before and after it, and the disk's counts of faults. After a failed
 -- write of the log or a failed flush the store is down, with the count then, and answers that and nothing else.
-abbrev pub IsOutcome : Result Progress StoreFault → State → State → Job → Job → ℕ → ℕ → Type 0
-IsOutcome (Ok More) old new was job before now = (goal_of job ≡ goal_of was) × (steps_left new job < steps_left old was) × (before ≤ now)
-IsOutcome (Ok Ended) old new was job before now = (job ≡ Idle) × IsDone was new × (before ≤ now)
-IsOutcome (Err WriteFault) old new was job before now =
+abbrev pub IsStepOutcome : Result Progress StoreFault → State → State → Job → Job → ℕ → ℕ → Type 0
+IsStepOutcome (Ok More) old new was job before now = (goal_of job ≡ goal_of was) × (steps_left new job < steps_left old was) × (before ≤ now)
+IsStepOutcome (Ok Ended) old new was job before now = (job ≡ Idle) × IsDone was new × (before ≤ now)
+IsStepOutcome (Err WriteFault) old new was job before now =
     (job ≡ Idle) × Rose before now × (LogFails new was now ⊎ HomeFails old new) × Writes (step_call old new was)
-IsOutcome (Err FlushFault) old new was job before now = (job ≡ Idle) × Rose before now × (new.stage ≡ Down now) × Flushes (step_call old new was)
-IsOutcome (Err PositionEnd) old new was job before now = (job ≡ Idle) × (new ≡ after_gather was old new) × (now ≡ before)
-IsOutcome (Err (faults.Down fault)) old new was job before now = (job ≡ Idle) × (old.stage ≡ Down fault) × (new ≡ old) × (now ≡ before)
+IsStepOutcome (Err FlushFault) old new was job before now = (job ≡ Idle) × Rose before now × (new.stage ≡ Down now) × Flushes (step_call old new was)
+IsStepOutcome (Err PositionEnd) old new was job before now = (job ≡ Idle) × (new ≡ after_gather was old new) × (now ≡ before)
+IsStepOutcome (Err (faults.Down fault)) old new was job before now = (job ≡ Idle) × (old.stage ≡ Down fault) × (new ≡ old) × (now ≡ before)
 
 -- What a whole job answers in place of its end, with the state after it and the disk's counts before and after it. After
 -- a failed home write a sector is still dirty, and the store goes on. The job comes to the positions' end where the next record, a cover included, would end past the last one.

@@ -6,11 +6,11 @@ use Rattle.life_bytes.specs.declared.sector.Sector.{Sector}
 use Rattle.disk_model.specs.Disk.{Cell, Elapses}
 use Rattle.log_record.specs.declared.image.Commit.{Commit}
 use Rattle.log_record.specs.declared.image.Image.{Image}
-use Rattle.log_record.specs.Encoding.{FitsFields, sector_count, encoded}
+use Rattle.log_record.specs.Encoding.{FitsFields, sector_count, encoded_record}
 use Rattle.log_image.specs.Log.{IsGroupImage}
 use Rattle.log_image.specs.Overlay.{overlaid}
 use Rattle.log_batch.specs.Newest.{IsCommit, commit_images}
-use Rattle.log_batch.specs.Put.{Rises}
+use Rattle.log_batch.specs.Put.{KeysRise}
 use Rattle.log_store.specs.declared.store.Stage.{Stage}
 use Rattle.log_store.specs.declared.store.Stage.TheVariants.{Free, Half, Record, Cover, Down}
 use Rattle.log_store.specs.declared.store.Job.{Job}
@@ -25,7 +25,7 @@ pub record IsInFlight (s : State) (sectors : List Sector) (count : ℕ) : Type 0
   pub batch : IsTaken s.list s.taken s.batch
   pub fits : FitsFields (item_of s)
   pub size : count ≡ sector_count (length s.batch)
-  pub encoded : take count sectors ≡ encoded (item_of s)
+  pub encoded_record : take count sectors ≡ encoded_record (item_of s)
   pub room : (s.head - s.tail) + count + 1 ≤ s.ring
   pub end : s.head + count ≤ 2 ^ 63
 
@@ -85,14 +85,14 @@ Covering Idle = ⊥
 -- What a store's fields always meet, on a disk of so many sectors: the log lies on the disk; commits are ones that a
 -- record can take, of sectors of the groups, with numbers of 64 bits; dirty images are by ascending home; and there is
 -- room for those of all commits.
-pub record IsSound {D : Type 0} (sector_count : ℕ) (store : Store D) : Type 0 where
+pub record IsConsistent {D : Type 0} (sector_count : ℕ) (store : Store D) : Type 0 where
   pub place : store.anchor + 1 + store.ring ≤ sector_count
   pub last : store.anchor + 1 + store.ring < 2 ^ 64
   pub ring : store.positions.ring ≡ store.ring
   pub commits : All IsCommit store.queue.items
   pub groups : All (IsGroupImage store.anchor) (commit_images store.queue.items)
   pub numbers : store.durable + length store.queue.items < 2 ^ 64 - 1
-  pub rises : Rises (λ i. i.home) 0 store.dirty.images
+  pub rises : KeysRise (λ i. i.home) 0 store.dirty.images
   pub homes : All (IsGroupImage store.anchor) store.dirty.images
   pub room : length (commit_images store.queue.items) ≤ store.dirty.room
   pub buffer : length store.sectors.items ≡ MAX_RECORD_SECTORS
@@ -102,7 +102,7 @@ pub record IsSound {D : Type 0} (sector_count : ℕ) (store : Store D) : Type 0 
 
 -- a store whose fields and whose disk are right
 pub record IsStore {D : Type 0} (known : Bool) (cells : D → List Cell) (sector_count : D → ℕ) (store : Store D) : Type 0 where
-  pub sound : IsSound (sector_count store.disk) store
+  pub sound : IsConsistent (sector_count store.disk) store
   pub holds : IsTrue known → HoldsState (state_of store) (cells store.disk)
 
 -- Some first commits of the list became durable: they left the list, the durable number rose by their number, and the

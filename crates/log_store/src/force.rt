@@ -5,7 +5,7 @@ ghost use Rattle.disk_model.specs.Disk.{IsAfterWrites, IsImage};
 ghost use Rattle.log_store.specs.OnDisk.{ReplaysTo};
 ghost use Rattle.log_store.specs.declared.store.Job.TheVariants.{Force, Home, Idle, WriteBack};
 ghost use Rattle.log_store.specs.declared.store.Stage.TheVariants.{Down, Free};
-ghost use Rattle.log_store.specs.Outcome.{CoverEndsPast, Covered, IsDone, IsFault, Rises, Stays, covers_of};
+ghost use Rattle.log_store.specs.Outcome.{CoverEndsPast, Covered, IsDone, IsFault, Rises, PositionsStay, covers_of};
 ghost use Rattle.log_store.specs.State.{state_of};
 ghost use Rattle.log_store.specs.Steps.{Goes, IsStore, JobAsks};
 
@@ -22,9 +22,9 @@ impl<D: Disk> Store<D> {
         ensures idle { self.new.job ≡ Idle }
         ensures done { OnOk result (IsDone self.old.job (state_of self.new)) }
         ensures rises { Rises (covers_of self.old.job) 0 (state_of self.old) (state_of self.new) }
-        ensures stays { self.old.job ≡ WriteBack → Stays (state_of self.old) (state_of self.new) }
+        ensures stays { self.old.job ≡ WriteBack → PositionsStay (state_of self.old) (state_of self.new) }
         ensures covered { self.old.job ≡ Home → OnOk result (Covered (state_of self.old) (state_of self.new)) }
-        ensures failed { self.old.job ≡ Home → OnErr result (Stays (state_of self.old) (state_of self.new)) }
+        ensures failed { self.old.job ≡ Home → OnErr result (PositionsStay (state_of self.old) (state_of self.new)) }
         ensures at_end { self.old.job ≡ Home → self.old.stage ≡ Free → CoverEndsPast (state_of self.old) → result ≡ Err StoreFault.PositionEnd }
         ensures arming { IsAfterWrites (D.arming self.old.disk) (D.arming self.new.disk) }
         ensures fault { IfErr result (λ fault. IsFault fault self.old.job (state_of self.new) (D.fault_count self.old.disk) (D.fault_count self.new.disk)) }
@@ -68,7 +68,7 @@ impl<D: Disk> Store<D> {
         ensures goes { Goes D.known D.cells D.sector_count D.moment D.left_since self.old self.new }
         ensures idle { self.new.job ≡ Idle }
         ensures home { OnOk result ((self.new.dirty.images ≡ []) × (self.new.unflushed ≡ false)) }
-        ensures stays { Stays (state_of self.old) (state_of self.new) }
+        ensures stays { PositionsStay (state_of self.old) (state_of self.new) }
         ensures arming { IsAfterWrites (D.arming self.old.disk) (D.arming self.new.disk) }
         ensures fault { IfErr result (λ fault. IsFault fault WriteBack (state_of self.new) (D.fault_count self.old.disk) (D.fault_count self.new.disk)) }
         ensures down { (fault : ℕ) → self.old.stage ≡ Down fault → (result ≡ Err (StoreFault.Down fault)) × (self.new.disk ≡ self.old.disk) }
@@ -87,7 +87,7 @@ impl<D: Disk> Store<D> {
         ensures goes { Goes D.known D.cells D.sector_count D.moment D.left_since self.old self.new }
         ensures idle { self.new.job ≡ Idle }
         ensures covered { OnOk result (Covered (state_of self.old) (state_of self.new)) }
-        ensures failed { OnErr result (Stays (state_of self.old) (state_of self.new)) }
+        ensures failed { OnErr result (PositionsStay (state_of self.old) (state_of self.new)) }
         ensures end { (result ≡ Err StoreFault.PositionEnd) ↔ (self.old.stage ≡ Free) × (2 ^ 63 < self.old.positions.head + 1) }
         ensures arming { IsAfterWrites (D.arming self.old.disk) (D.arming self.new.disk) }
         ensures fault { IfErr result (λ fault. IsFault fault Home (state_of self.new) (D.fault_count self.old.disk) (D.fault_count self.new.disk)) }

@@ -1,8 +1,8 @@
 // The steps that write logged sectors home.
 ghost use Rattle.std.specs.Prelude.{◌≡◌, ◌≢◌, [], IsTrue};
 ghost use Rattle.log_store.specs.declared.store.Stage.TheVariants.{Free};
-ghost use Rattle.log_store.specs.Calls.{Made, call_of};
-ghost use Rattle.log_store.specs.Outcome.{EndsExactly, IsOutcome, Rises, StepMoves, covers_of};
+ghost use Rattle.log_store.specs.Calls.{Made, device_call};
+ghost use Rattle.log_store.specs.Outcome.{EndsExactly, IsStepOutcome, Rises, StepMoves, covers_of};
 ghost use Rattle.log_store.specs.State.{state_of};
 ghost use Rattle.log_store.specs.Steps.{Goes, IsStore, MovesHome};
 
@@ -20,11 +20,11 @@ impl<D: Disk> Store<D> {
         requires job { MovesHome self.old.job }
         ensures goes { Goes D.known D.cells D.sector_count D.moment D.left_since self.old self.new }
         ensures batch { self.new.batch ≡ self.old.batch }
-        ensures outcome { IsOutcome result (state_of self.old) (state_of self.new) self.old.job self.new.job (D.fault_count self.old.disk) (D.fault_count self.new.disk) }
+        ensures outcome { IsStepOutcome result (state_of self.old) (state_of self.new) self.old.job self.new.job (D.fault_count self.old.disk) (D.fault_count self.new.disk) }
         ensures end { EndsExactly result (state_of self.old) (state_of self.new) self.old.job }
         ensures moves { StepMoves result self.old.stage (state_of self.old) (state_of self.new) self.old.job }
         ensures rises { Rises (covers_of self.old.job) (covers_of self.new.job) (state_of self.old) (state_of self.new) }
-        ensures call { Made D.known D.cells D.arming (call_of result (state_of self.old) (state_of self.new) self.old.job) result self.old.disk self.new.disk }
+        ensures call { Made D.known D.cells D.arming (device_call result (state_of self.old) (state_of self.new) self.old.job) result self.old.disk self.new.disk }
     {
         homes();
         let Some(image) = self.dirty.first() else {
@@ -52,11 +52,11 @@ impl<D: Disk> Store<D> {
         requires job { MovesHome self.old.job }
         ensures goes { Goes D.known D.cells D.sector_count D.moment D.left_since self.old self.new }
         ensures batch { self.new.batch ≡ self.old.batch }
-        ensures outcome { IsOutcome result (state_of self.old) (state_of self.new) self.old.job self.new.job (D.fault_count self.old.disk) (D.fault_count self.new.disk) }
+        ensures outcome { IsStepOutcome result (state_of self.old) (state_of self.new) self.old.job self.new.job (D.fault_count self.old.disk) (D.fault_count self.new.disk) }
         ensures end { EndsExactly result (state_of self.old) (state_of self.new) self.old.job }
         ensures moves { StepMoves result self.old.stage (state_of self.old) (state_of self.new) self.old.job }
         ensures rises { Rises (covers_of self.old.job) (covers_of self.new.job) (state_of self.old) (state_of self.new) }
-        ensures call { Made D.known D.cells D.arming (call_of result (state_of self.old) (state_of self.new) self.old.job) result self.old.disk self.new.disk }
+        ensures call { Made D.known D.cells D.arming (device_call result (state_of self.old) (state_of self.new) self.old.job) result self.old.disk self.new.disk }
     {
         homes();
         match self.disk.flush() {

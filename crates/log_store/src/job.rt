@@ -2,8 +2,8 @@
 ghost use Rattle.std.specs.Prelude.{ℕ, ◌≡◌, ◌≢◌, []};
 ghost use Rattle.log_store.specs.declared.store.Job.TheVariants.{Force, Home, Idle, Nothing, WriteBack};
 ghost use Rattle.log_store.specs.declared.store.Stage.TheVariants.{Down, Free};
-ghost use Rattle.log_store.specs.Calls.{Made, call_of};
-ghost use Rattle.log_store.specs.Outcome.{EndsExactly, IsOutcome, Rises, StepMoves, covers_of};
+ghost use Rattle.log_store.specs.Calls.{Made, device_call};
+ghost use Rattle.log_store.specs.Outcome.{EndsExactly, IsStepOutcome, Rises, StepMoves, covers_of};
 ghost use Rattle.log_store.specs.State.{state_of};
 ghost use Rattle.log_store.specs.Steps.{Covering, Goes, IsStore};
 
@@ -43,11 +43,11 @@ impl<D: Disk> Store<D> {
     pub fn advance(&mut self) -> Result<Progress, StoreFault>
         requires store { IsStore D.known D.cells D.sector_count self.old }
         ensures goes { Goes D.known D.cells D.sector_count D.moment D.left_since self.old self.new }
-        ensures outcome { IsOutcome result (state_of self.old) (state_of self.new) self.old.job self.new.job (D.fault_count self.old.disk) (D.fault_count self.new.disk) }
+        ensures outcome { IsStepOutcome result (state_of self.old) (state_of self.new) self.old.job self.new.job (D.fault_count self.old.disk) (D.fault_count self.new.disk) }
         ensures end { EndsExactly result (state_of self.old) (state_of self.new) self.old.job }
         ensures moves { StepMoves result self.old.stage (state_of self.old) (state_of self.new) self.old.job }
         ensures rises { Rises (covers_of self.old.job) (covers_of self.new.job) (state_of self.old) (state_of self.new) }
-        ensures call { Made D.known D.cells D.arming (call_of result (state_of self.old) (state_of self.new) self.old.job) result self.old.disk self.new.disk }
+        ensures call { Made D.known D.cells D.arming (device_call result (state_of self.old) (state_of self.new) self.old.job) result self.old.disk self.new.disk }
         ensures down { (fault : ℕ) → self.old.stage ≡ Down fault → (result ≡ Err (StoreFault.Down fault)) × (self.new ≡ record self.old { job = Idle }) }
     {
         match self.stage {
@@ -67,11 +67,11 @@ impl<D: Disk> Store<D> {
         requires store { IsStore D.known D.cells D.sector_count self.old }
         requires stage { self.old.stage ≡ Free }
         ensures goes { Goes D.known D.cells D.sector_count D.moment D.left_since self.old self.new }
-        ensures outcome { IsOutcome result (state_of self.old) (state_of self.new) self.old.job self.new.job (D.fault_count self.old.disk) (D.fault_count self.new.disk) }
+        ensures outcome { IsStepOutcome result (state_of self.old) (state_of self.new) self.old.job self.new.job (D.fault_count self.old.disk) (D.fault_count self.new.disk) }
         ensures end { EndsExactly result (state_of self.old) (state_of self.new) self.old.job }
         ensures moves { StepMoves result self.old.stage (state_of self.old) (state_of self.new) self.old.job }
         ensures rises { Rises (covers_of self.old.job) (covers_of self.new.job) (state_of self.old) (state_of self.new) }
-        ensures call { Made D.known D.cells D.arming (call_of result (state_of self.old) (state_of self.new) self.old.job) result self.old.disk self.new.disk }
+        ensures call { Made D.known D.cells D.arming (device_call result (state_of self.old) (state_of self.new) self.old.job) result self.old.disk self.new.disk }
     {
         match self.job {
             Job::Force => self.force_step(),
@@ -90,11 +90,11 @@ impl<D: Disk> Store<D> {
         requires stage { self.old.stage ≡ Free }
         requires job { self.old.job ≡ Force }
         ensures goes { Goes D.known D.cells D.sector_count D.moment D.left_since self.old self.new }
-        ensures outcome { IsOutcome result (state_of self.old) (state_of self.new) self.old.job self.new.job (D.fault_count self.old.disk) (D.fault_count self.new.disk) }
+        ensures outcome { IsStepOutcome result (state_of self.old) (state_of self.new) self.old.job self.new.job (D.fault_count self.old.disk) (D.fault_count self.new.disk) }
         ensures end { EndsExactly result (state_of self.old) (state_of self.new) self.old.job }
         ensures moves { StepMoves result self.old.stage (state_of self.old) (state_of self.new) self.old.job }
         ensures rises { Rises (covers_of self.old.job) (covers_of self.new.job) (state_of self.old) (state_of self.new) }
-        ensures call { Made D.known D.cells D.arming (call_of result (state_of self.old) (state_of self.new) self.old.job) result self.old.disk self.new.disk }
+        ensures call { Made D.known D.cells D.arming (device_call result (state_of self.old) (state_of self.new) self.old.job) result self.old.disk self.new.disk }
     {
         if self.queue.is_empty() {
             self.job = Job::Idle;
@@ -115,11 +115,11 @@ impl<D: Disk> Store<D> {
         requires job { Covering self.old.job }
         ensures goes { Goes D.known D.cells D.sector_count D.moment D.left_since self.old self.new }
         ensures batch { self.new.batch ≡ self.old.batch }
-        ensures outcome { IsOutcome result (state_of self.old) (state_of self.new) self.old.job self.new.job (D.fault_count self.old.disk) (D.fault_count self.new.disk) }
+        ensures outcome { IsStepOutcome result (state_of self.old) (state_of self.new) self.old.job self.new.job (D.fault_count self.old.disk) (D.fault_count self.new.disk) }
         ensures end { EndsExactly result (state_of self.old) (state_of self.new) self.old.job }
         ensures moves { StepMoves result self.old.stage (state_of self.old) (state_of self.new) self.old.job }
         ensures rises { Rises (covers_of self.old.job) (covers_of self.new.job) (state_of self.old) (state_of self.new) }
-        ensures call { Made D.known D.cells D.arming (call_of result (state_of self.old) (state_of self.new) self.old.job) result self.old.disk self.new.disk }
+        ensures call { Made D.known D.cells D.arming (device_call result (state_of self.old) (state_of self.new) self.old.job) result self.old.disk self.new.disk }
     {
         if !self.dirty.is_empty() {
             return self.write_home();
@@ -136,11 +136,11 @@ impl<D: Disk> Store<D> {
         requires stage { self.old.stage ≡ Free }
         requires job { self.old.job ≡ WriteBack }
         ensures goes { Goes D.known D.cells D.sector_count D.moment D.left_since self.old self.new }
-        ensures outcome { IsOutcome result (state_of self.old) (state_of self.new) self.old.job self.new.job (D.fault_count self.old.disk) (D.fault_count self.new.disk) }
+        ensures outcome { IsStepOutcome result (state_of self.old) (state_of self.new) self.old.job self.new.job (D.fault_count self.old.disk) (D.fault_count self.new.disk) }
         ensures end { EndsExactly result (state_of self.old) (state_of self.new) self.old.job }
         ensures moves { StepMoves result self.old.stage (state_of self.old) (state_of self.new) self.old.job }
         ensures rises { Rises (covers_of self.old.job) (covers_of self.new.job) (state_of self.old) (state_of self.new) }
-        ensures call { Made D.known D.cells D.arming (call_of result (state_of self.old) (state_of self.new) self.old.job) result self.old.disk self.new.disk }
+        ensures call { Made D.known D.cells D.arming (device_call result (state_of self.old) (state_of self.new) self.old.job) result self.old.disk self.new.disk }
     {
         if !self.dirty.is_empty() {
             return self.write_home();

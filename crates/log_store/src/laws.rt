@@ -6,8 +6,8 @@ ghost use Rattle.log_record.specs.declared.image.Image.{Image};
 ghost use Rattle.log_image.specs.Log.{IsGroupImage};
 ghost use Rattle.log_image.specs.Overlay.{overlaid};
 ghost use Rattle.log_batch.specs.Newest.{commit_images};
-ghost use Rattle.log_batch.specs.Put.{Rises};
-ghost use Rattle.log_store.specs.Landed.{RingFits, covered, flushed_home, landed, written_home};
+ghost use Rattle.log_batch.specs.Put.{KeysRise};
+ghost use Rattle.log_store.specs.Landed.{RingFits, covered_state, flushed_home, landed, written_home};
 ghost use Rattle.log_store.specs.OnDisk.{AtRest, Covers, Flies, HoldsState, ReplaysTo, base_of, cover_written, fully_written, half_written};
 ghost use Rattle.log_store.specs.State.{State};
 ghost use Rattle.log_store.specs.declared.store.Stage.TheVariants.{Cover};
@@ -23,9 +23,9 @@ pub(crate) fn flights()
         → IsImage (fully_written s before) image → ReplaysTo s before image }
     ensures half_base { (s : State) (before : List Cell) → RingFits s before → base_of s (half_written s before) ≡ base_of s before }
     ensures full_base { (s : State) (before : List Cell) → Flies s before → RingFits s before → base_of s (fully_written s before) ≡ base_of s before }
-    ensures landed { (s : State) (before : List Cell) → Flies s before → RingFits s before → Rises (λ i. i.home) 0 s.dirty
+    ensures landed { (s : State) (before : List Cell) → Flies s before → RingFits s before → KeysRise (λ i. i.home) 0 s.dirty
         → AtRest (landed s) (flushed (fully_written s before)) }
-    ensures base { (s : State) (before : List Cell) → Flies s before → RingFits s before → Rises (λ i. i.home) 0 s.dirty
+    ensures base { (s : State) (before : List Cell) → Flies s before → RingFits s before → KeysRise (λ i. i.home) 0 s.dirty
         → base_of (landed s) (flushed (fully_written s before)) ≡ overlaid (base_of s before) (commit_images (take s.taken s.list)) }
 {
     torn_records();
@@ -38,9 +38,9 @@ pub(crate) fn cover_flights()
         → IsImage (cover_written s before) image → ReplaysTo s before image }
     ensures written_base { (s : State) (before : List Cell) → RingFits s before → base_of s (cover_written s before) ≡ base_of s before }
     ensures landed { (s : State) (before : List Cell) → Covers s before → RingFits s before → s.head + 1 ≤ 2 ^ 63
-        → AtRest (covered s) (flushed (cover_written s before)) }
+        → AtRest (covered_state s) (flushed (cover_written s before)) }
     ensures base { (s : State) (before : List Cell) → Covers s before → RingFits s before → s.head + 1 ≤ 2 ^ 63
-        → base_of (covered s) (flushed (cover_written s before)) ≡ base_of s before }
+        → base_of (covered_state s) (flushed (cover_written s before)) ≡ base_of s before }
 {
     torn_records();
     home_writes();
@@ -60,19 +60,19 @@ pub(crate) fn states()
 /// Laws of writes home: the base stays, and nothing is in flight.
 pub(crate) fn homes()
     ensures images { (s : State) (cells : List Cell) (image : Image) (rest : List Image) (left : List Sector) → AtRest s cells
-        → s.dirty ≡ image ∷ rest → Rises (λ i. i.home) 0 s.dirty → image.home < s.anchor → s.anchor ≤ length cells
+        → s.dirty ≡ image ∷ rest → KeysRise (λ i. i.home) 0 s.dirty → image.home < s.anchor → s.anchor ≤ length cells
         → IsImage (written image.home (image.sector ∷ []) cells) left → ReplaysTo s cells left }
     ensures done { (s : State) (cells : List Cell) (image : Image) (rest : List Image) → AtRest s cells
-        → s.dirty ≡ image ∷ rest → Rises (λ i. i.home) 0 s.dirty → image.home < s.anchor → s.anchor ≤ length cells
+        → s.dirty ≡ image ∷ rest → KeysRise (λ i. i.home) 0 s.dirty → image.home < s.anchor → s.anchor ≤ length cells
         → AtRest (written_home s rest) (written image.home (image.sector ∷ []) cells) }
     ensures base { (s : State) (cells : List Cell) (image : Image) (rest : List Image) → AtRest s cells
-        → s.dirty ≡ image ∷ rest → Rises (λ i. i.home) 0 s.dirty → image.home < s.anchor → s.anchor ≤ length cells
+        → s.dirty ≡ image ∷ rest → KeysRise (λ i. i.home) 0 s.dirty → image.home < s.anchor → s.anchor ≤ length cells
         → base_of (written_home s rest) (written image.home (image.sector ∷ []) cells) ≡ base_of s cells }
     ensures failed { (s : State) (cells new : List Cell) (image : Image) (rest : List Image) → AtRest s cells
-        → s.dirty ≡ image ∷ rest → Rises (λ i. i.home) 0 s.dirty → image.home < s.anchor → s.anchor ≤ length cells
+        → s.dirty ≡ image ∷ rest → KeysRise (λ i. i.home) 0 s.dirty → image.home < s.anchor → s.anchor ≤ length cells
         → IsPartlyWritten image.home (image.sector ∷ []) cells new → AtRest (written_home s s.dirty) new }
     ensures failed_base { (s : State) (cells new : List Cell) (image : Image) (rest : List Image) → AtRest s cells
-        → s.dirty ≡ image ∷ rest → Rises (λ i. i.home) 0 s.dirty → image.home < s.anchor → s.anchor ≤ length cells
+        → s.dirty ≡ image ∷ rest → KeysRise (λ i. i.home) 0 s.dirty → image.home < s.anchor → s.anchor ≤ length cells
         → IsPartlyWritten image.home (image.sector ∷ []) cells new → base_of (written_home s s.dirty) new ≡ base_of s cells }
     ensures flushed { (s : State) (cells : List Cell) → AtRest s cells → AtRest (flushed_home s) (flushed cells) }
 {

@@ -3,12 +3,12 @@ ghost use Rattle.std.specs.Prelude.{◌≡◌, ◌≤◌, ◌<◌, ◌+◌, ◌-
 ghost use Rattle.std.specs.List.{All};
 ghost use Rattle.std.specs.VecDeque.{deque_capacity};
 ghost use Rattle.log_record.specs.Numbers.{record_of};
-ghost use Rattle.log_record.specs.Encoding.{FitsFields, IsRecord, sector_count, encoded};
+ghost use Rattle.log_record.specs.Encoding.{FitsFields, IsRecord, sector_count, encoded_record};
 ghost use Rattle.log_batch.specs.Newest.{IsBatch, IsCommit};
 ghost use Rattle.log_store.specs.declared.store.Job.TheVariants.{Force, Idle};
 ghost use Rattle.log_store.specs.declared.store.Stage.TheVariants.{Cover, Down, Free, Half, Record};
-ghost use Rattle.log_store.specs.Calls.{Made, call_of};
-ghost use Rattle.log_store.specs.Outcome.{EndsExactly, IsOutcome, Rises, StepMoves, covers_of};
+ghost use Rattle.log_store.specs.Calls.{Made, device_call};
+ghost use Rattle.log_store.specs.Outcome.{EndsExactly, IsStepOutcome, Rises, StepMoves, covers_of};
 ghost use Rattle.log_store.specs.State.{state_of};
 ghost use Rattle.log_store.specs.Steps.{Covering, Goes, IsStore};
 
@@ -28,7 +28,7 @@ fn fill_front(into: &mut [Sector], numbers: &RecordNumbers, images: &[Image], co
     requires form { IsRecord (record_of numbers.now images.now) }
     requires size { count ≡ sector_count (length images.now) }
     requires room { count ≤ length into.old }
-    ensures encoded { take count into.new ≡ encoded (record_of numbers.now images.now) }
+    ensures encoded_record { take count into.new ≡ encoded_record (record_of numbers.now images.now) }
     ensures fits { FitsFields (record_of numbers.now images.now) }
 {
     fill_images(numbers, images, &mut into[..count]);
@@ -39,7 +39,7 @@ fn fill_buffer(sectors: &mut Vec<Sector>, numbers: &RecordNumbers, images: &[Ima
     requires form { IsRecord (record_of numbers.now images.now) }
     requires size { count ≡ sector_count (length images.now) }
     requires room { count ≤ length sectors.old.items }
-    ensures encoded { take count sectors.new.items ≡ encoded (record_of numbers.now images.now) }
+    ensures encoded_record { take count sectors.new.items ≡ encoded_record (record_of numbers.now images.now) }
     ensures fits { FitsFields (record_of numbers.now images.now) }
     ensures length { length sectors.new.items ≡ length sectors.old.items }
 {
@@ -104,11 +104,11 @@ impl<D: Disk> Store<D> {
         requires size { self.old.count ≡ sector_count (length self.old.batch) }
         requires room { (self.old.positions.head - self.old.positions.tail) + self.old.count + 1 ≤ self.old.ring }
         ensures goes { Goes D.known D.cells D.sector_count D.moment D.left_since self.old self.new }
-        ensures outcome { IsOutcome result (state_of self.old) (state_of self.new) self.old.job self.new.job (D.fault_count self.old.disk) (D.fault_count self.new.disk) }
+        ensures outcome { IsStepOutcome result (state_of self.old) (state_of self.new) self.old.job self.new.job (D.fault_count self.old.disk) (D.fault_count self.new.disk) }
         ensures end { EndsExactly result (state_of self.old) (state_of self.new) self.old.job }
         ensures moves { StepMoves result self.old.stage (state_of self.old) (state_of self.new) self.old.job }
         ensures rises { Rises (covers_of self.old.job) (covers_of self.new.job) (state_of self.old) (state_of self.new) }
-        ensures call { Made D.known D.cells D.arming (call_of result (state_of self.old) (state_of self.new) self.old.job) result self.old.disk self.new.disk }
+        ensures call { Made D.known D.cells D.arming (device_call result (state_of self.old) (state_of self.new) self.old.job) result self.old.disk self.new.disk }
     {
         flights();
         let head = self.positions.head();
@@ -147,11 +147,11 @@ impl<D: Disk> Store<D> {
         requires store { IsStore D.known D.cells D.sector_count self.old }
         requires stage { self.old.stage ≡ Half }
         ensures goes { Goes D.known D.cells D.sector_count D.moment D.left_since self.old self.new }
-        ensures outcome { IsOutcome result (state_of self.old) (state_of self.new) self.old.job self.new.job (D.fault_count self.old.disk) (D.fault_count self.new.disk) }
+        ensures outcome { IsStepOutcome result (state_of self.old) (state_of self.new) self.old.job self.new.job (D.fault_count self.old.disk) (D.fault_count self.new.disk) }
         ensures end { EndsExactly result (state_of self.old) (state_of self.new) self.old.job }
         ensures moves { StepMoves result self.old.stage (state_of self.old) (state_of self.new) self.old.job }
         ensures rises { Rises (covers_of self.old.job) (covers_of self.new.job) (state_of self.old) (state_of self.new) }
-        ensures call { Made D.known D.cells D.arming (call_of result (state_of self.old) (state_of self.new) self.old.job) result self.old.disk self.new.disk }
+        ensures call { Made D.known D.cells D.arming (device_call result (state_of self.old) (state_of self.new) self.old.job) result self.old.disk self.new.disk }
     {
         flights();
         let part = self.straight();
@@ -173,11 +173,11 @@ impl<D: Disk> Store<D> {
         requires store { IsStore D.known D.cells D.sector_count self.old }
         requires stage { self.old.stage ≡ Record }
         ensures goes { Goes D.known D.cells D.sector_count D.moment D.left_since self.old self.new }
-        ensures outcome { IsOutcome result (state_of self.old) (state_of self.new) self.old.job self.new.job (D.fault_count self.old.disk) (D.fault_count self.new.disk) }
+        ensures outcome { IsStepOutcome result (state_of self.old) (state_of self.new) self.old.job self.new.job (D.fault_count self.old.disk) (D.fault_count self.new.disk) }
         ensures end { EndsExactly result (state_of self.old) (state_of self.new) self.old.job }
         ensures moves { StepMoves result self.old.stage (state_of self.old) (state_of self.new) self.old.job }
         ensures rises { Rises (covers_of self.old.job) (covers_of self.new.job) (state_of self.old) (state_of self.new) }
-        ensures call { Made D.known D.cells D.arming (call_of result (state_of self.old) (state_of self.new) self.old.job) result self.old.disk self.new.disk }
+        ensures call { Made D.known D.cells D.arming (device_call result (state_of self.old) (state_of self.new) self.old.job) result self.old.disk self.new.disk }
     {
         flights();
         states();
@@ -211,11 +211,11 @@ impl<D: Disk> Store<D> {
         requires job { Covering self.old.job }
         ensures goes { Goes D.known D.cells D.sector_count D.moment D.left_since self.old self.new }
         ensures batch { self.new.batch ≡ self.old.batch }
-        ensures outcome { IsOutcome result (state_of self.old) (state_of self.new) self.old.job self.new.job (D.fault_count self.old.disk) (D.fault_count self.new.disk) }
+        ensures outcome { IsStepOutcome result (state_of self.old) (state_of self.new) self.old.job self.new.job (D.fault_count self.old.disk) (D.fault_count self.new.disk) }
         ensures end { EndsExactly result (state_of self.old) (state_of self.new) self.old.job }
         ensures moves { StepMoves result self.old.stage (state_of self.old) (state_of self.new) self.old.job }
         ensures rises { Rises (covers_of self.old.job) (covers_of self.new.job) (state_of self.old) (state_of self.new) }
-        ensures call { Made D.known D.cells D.arming (call_of result (state_of self.old) (state_of self.new) self.old.job) result self.old.disk self.new.disk }
+        ensures call { Made D.known D.cells D.arming (device_call result (state_of self.old) (state_of self.new) self.old.job) result self.old.disk self.new.disk }
     {
         cover_flights();
         let head = self.positions.head();
@@ -248,11 +248,11 @@ impl<D: Disk> Store<D> {
         requires store { IsStore D.known D.cells D.sector_count self.old }
         requires stage { self.old.stage ≡ Cover }
         ensures goes { Goes D.known D.cells D.sector_count D.moment D.left_since self.old self.new }
-        ensures outcome { IsOutcome result (state_of self.old) (state_of self.new) self.old.job self.new.job (D.fault_count self.old.disk) (D.fault_count self.new.disk) }
+        ensures outcome { IsStepOutcome result (state_of self.old) (state_of self.new) self.old.job self.new.job (D.fault_count self.old.disk) (D.fault_count self.new.disk) }
         ensures end { EndsExactly result (state_of self.old) (state_of self.new) self.old.job }
         ensures moves { StepMoves result self.old.stage (state_of self.old) (state_of self.new) self.old.job }
         ensures rises { Rises (covers_of self.old.job) (covers_of self.new.job) (state_of self.old) (state_of self.new) }
-        ensures call { Made D.known D.cells D.arming (call_of result (state_of self.old) (state_of self.new) self.old.job) result self.old.disk self.new.disk }
+        ensures call { Made D.known D.cells D.arming (device_call result (state_of self.old) (state_of self.new) self.old.job) result self.old.disk self.new.disk }
     {
         cover_flights();
         states();

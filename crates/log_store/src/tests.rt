@@ -8,7 +8,8 @@ ghost use Rattle.disk_model.specs.MemoryDisk.{cells_of, fresh};
 ghost use Rattle.disk_model.specs.FaultDisk.{inner_of};
 ghost use Rattle.log_image.specs.Anchor.{anchor_sector};
 ghost use Rattle.log_image.specs.Log.{IsGroupImage};
-ghost use Rattle.log_batch.specs.Newest.{IsCommit, homes};
+ghost use Rattle.log_image.specs.Overlay.{homes};
+ghost use Rattle.log_batch.specs.Newest.{IsCommit};
 ghost use Rattle.log_store.specs.Steps.{IsStore};
 
 use super::*;

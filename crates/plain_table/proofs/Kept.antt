@@ -9,9 +9,9 @@ use Rattle.life_table.specs.declared.types.Row.{Row}
 use Rattle.life_table.specs.declared.table.Inode.{Inode}
 use Rattle.life_table.specs.declared.table.Chunk.{Chunk}
 use Rattle.life_table.specs.declared.table.Table.{Table}
-use Rattle.life_table.specs.Table.{Group, start_of, inode_in, set_inode, group_of, inode_of, with_inode, row_in_life, row_of, with_row}
+use Rattle.life_table.specs.Table.{Group, start_of, inode_in, set_inode, group_at, inode_of, with_inode, row_in_life, row_of, with_row}
 use Rattle.life_table.specs.Space.{times, chunk_blocks, row_blocks, inode_blocks, used}
-use Rattle.life_table.specs.WellFormed.{IsRow, IsInode, IsChunk, Ascends, IsGroup, IsTable}
+use Rattle.life_table.specs.WellFormed.{IsRow, IsInode, IsChunk, ChunksAscend, IsGroup, IsTable}
 use Rattle.plain_table.specs.Beginnings.{with_links, in_life}
 
 all_set : {X : Type 0} (P : X → Type 0) (xs : List X) (i : ℕ) (x : X) → AllByRecursion P xs → P x → AllByRecursion P (slice_set xs i x)
@@ -62,11 +62,11 @@ starts-set_inode P (chunk ∷ chunks) agino new all =
       | false ↦ (all.0, starts-set_inode P chunks agino new all.1)
     ]
 
-ascends-set_inode : (group : Group) (agino : ℕ) (new : Inode) → Ascends group → Ascends (set_inode group agino new)
+ascends-set_inode : (group : Group) (agino : ℕ) (new : Inode) → ChunksAscend group → ChunksAscend (set_inode group agino new)
 unfolding set_inode
 ascends-set_inode [] agino new ascends = tt
 ascends-set_inode (chunk ∷ chunks) agino new ascends =
-    elim (chunk.start == start_of agino) as (λ c. Ascends (if c then record { start = chunk.start; inodes = slice_set chunk.inodes (agino % CHUNK_INODES) new } ∷ chunks else chunk ∷ set_inode chunks agino new)) [
+    elim (chunk.start == start_of agino) as (λ c. ChunksAscend (if c then record { start = chunk.start; inodes = slice_set chunk.inodes (agino % CHUNK_INODES) new } ∷ chunks else chunk ∷ set_inode chunks agino new)) [
       | true ↦ ascends
       | false ↦ (starts-set_inode (λ (start : ℕ). chunk.start < start) chunks agino new ascends.0, ascends-set_inode chunks agino new ascends.1)
     ]
@@ -116,19 +116,19 @@ nth_group t [] g agino inode all at = absurd (none-some inode at)
 nth_group t (group ∷ groups) zero agino inode all at = all.0
 nth_group t (group ∷ groups) (suc g) agino inode all at = nth_group t groups g agino inode all.1 at
 
-group_ok : (t : Table) (number : ℕ) (inode : Inode) → IsTable t → inode_of t number ≡ Some inode → IsGroup t.blocks (group_of t (number / GROUP_NUMBERS))
+group_ok : (t : Table) (number : ℕ) (inode : Inode) → IsTable t → inode_of t number ≡ Some inode → IsGroup t.blocks (group_at t (number / GROUP_NUMBERS))
 unfolding inode_of
 group_ok t number inode ok at = nth_group t t.groups (number / GROUP_NUMBERS) (number % GROUP_NUMBERS) inode ok.groups at
 
 inode_of-ok : (t : Table) (number : ℕ) (inode : Inode) → IsTable t → inode_of t number ≡ Some inode → IsInode inode
 unfolding inode_of
-inode_of-ok t number inode ok at = inode_in-ok (group_of t (number / GROUP_NUMBERS)) (number % GROUP_NUMBERS) inode (group_ok t number inode ok at).chunks at
+inode_of-ok t number inode ok at = inode_in-ok (group_at t (number / GROUP_NUMBERS)) (number % GROUP_NUMBERS) inode (group_ok t number inode ok at).chunks at
 
 table-with_inode : (t : Table) (number : ℕ) (old new : Inode) → IsTable t → inode_of t number ≡ Some old → IsInode new → row_blocks new.row ≡ row_blocks old.row → IsTable (with_inode t number new)
 unfolding inode_of with_inode
 table-with_inode t number old new ok at inode same =
     let g = number / GROUP_NUMBERS in
-    let group = set_inode (group_of t g) (number % GROUP_NUMBERS) new in
+    let group = set_inode (group_at t g) (number % GROUP_NUMBERS) new in
     let long : length (slice_set t.groups g group) ≡ length t.groups = length-set t.groups g group in
     record {
       version = ok.version;
@@ -136,7 +136,7 @@ table-with_inode t number old new ok at inode same =
       most = ok.most;
       some = omega (arith, long, ok.some);
       many = omega (arith, long, ok.many);
-      groups = all_set (IsGroup t.blocks) t.groups g group ok.groups (group-set_inode t.blocks (group_of t g) (number % GROUP_NUMBERS) old new (group_ok t number old ok at) at inode same);
+      groups = all_set (IsGroup t.blocks) t.groups g group ok.groups (group-set_inode t.blocks (group_at t g) (number % GROUP_NUMBERS) old new (group_ok t number old ok at) at inode same);
     }
 
 -- an inode in another life that is not the last generation

@@ -2,7 +2,7 @@
 
 ghost use Rattle.std.specs.Prelude.{◌≡◌, ◌<◌, IfNone, IfSome, IfOk, length, slice_get};
 ghost use Rattle.std.specs.Option.{option_copied};
-ghost use Rattle.life_table.specs.Table.{start_of, inode_in, set_inode, group_of, with_group, inode_of, with_inode, row_of};
+ghost use Rattle.life_table.specs.Table.{start_of, inode_in, set_inode, group_at, with_group, inode_of, with_inode, row_of};
 ghost use Rattle.plain_table.specs.Parts.{IsAbsent, IsFirstAt};
 
 use crate::copies::{copy_group, groups_with, inodes_with};
@@ -68,7 +68,7 @@ fn replace_inode(
 
 /// A group of the table; one that it does not have has no chunks.
 pub(crate) fn group_of(table: &Table, g: u64) -> &[Chunk]
-    ensures { result.now ≡ group_of table.now g }
+    ensures { result.now ≡ group_at table.now g }
 {
     match table.groups.as_slice().get(g as usize) {
         Some(group) => group.as_slice(),

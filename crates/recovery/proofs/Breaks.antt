@@ -7,8 +7,8 @@ use Rattle.life_bytes.specs.declared.sector.Sector.{Sector}
 use Rattle.log_record.specs.declared.record.LogRecord.{LogRecord}
 use Rattle.log_record.specs.Whole.{IsWholeAt}
 use Rattle.log_image.specs.Damage.{ChainBreaks, EndsAt, LogBreaksFirst, PositionBreaks}
-use Rattle.log_image.specs.Log.{AreBelow, HasLog, HasNoLast, IsLast, IsLogTo, Log, empty_log, end_of}
-use Rattle.log_image.specs.Step.{place_of}
+use Rattle.log_image.specs.Log.{AreBelow, HasLog, HasNoLast, IsLast, IsLogTo, Log, empty_log, record_end}
+use Rattle.log_image.specs.Step.{sector_of_position}
 use Rattle.log_batch.specs.NewestLaws.{put_all_is_newest}
 use Rattle.recovery.specs.Broken.{BreaksChain, BreaksLog, HasRecords, IsEndOf, IsLastOf, IsLeastHigh, lowered}
 use Rattle.recovery.specs.Found.{Says}
@@ -38,7 +38,7 @@ pub end_one : One → (ring : List Sector) (position : ℕ) (last : Option LogRe
 end_one one ring position None end other is at (inl ends) = absurd (last_or_none ring position ends.0 ends.1 is)
 end_one one ring position None end other is at (inr ends) = ends.1 ∙ sym at
 end_one one ring position (Some item) end other is at (inl ends) =
-    ends.2 ∙ ap (λ (r : LogRecord). end_of r) (last_one one ring position ends.0 item ends.1 is) ∙ sym at
+    ends.2 ∙ ap (λ (r : LogRecord). record_end r) (last_one one ring position ends.0 item ends.1 is) ∙ sym at
 end_one one ring position (Some item) end other is at (inr ends) = absurd (last_or_none ring position item is ends.0)
 
 end_is : (ring : List Sector) (position : ℕ) (last : Option LogRecord) (end : ℕ) → IsLastOf ring position last → IsEndOf position last end
@@ -65,7 +65,7 @@ last_size ring position item is = omega (arith, is.whole.room, is.whole.form.tai
 
 chain_one : One → (ring : List Sector) (anchor position a b : ℕ) → ChainBreaks ring anchor position a → ChainBreaks ring anchor position b → a ≡ b
 chain_one one ring anchor position a b (item, isa, na, ata) (other, isb, nb, atb) =
-    ata ∙ ap (λ (r : LogRecord). place_of anchor (length ring) r.position) (last_one one ring position item other isa isb) ∙ sym atb
+    ata ∙ ap (λ (r : LogRecord). sector_of_position anchor (length ring) r.position) (last_one one ring position item other isa isb) ∙ sym atb
 
 chain_not : One → (ring : List Sector) (anchor position next : ℕ) (log : Log) (s : ℕ) → HasRecords ring anchor position next log
     → ChainBreaks ring anchor position s → ⊥

@@ -11,12 +11,12 @@ use Rattle.log_record.specs.declared.image.Image.{Image}
 use Rattle.log_record.specs.declared.record.LogRecord.{LogRecord}
 use Rattle.log_record.specs.Encoding.{sector_count}
 use Rattle.log_record.specs.Whole.{IsWholeAt, NoneWholeAt, at_place}
-use Rattle.log_image.specs.Log.{IsChain, IsGroupImage, IsLast, IsLogTo, Log, end_of, next_of}
+use Rattle.log_image.specs.Log.{IsRecordChain, IsGroupImage, IsLast, IsLogTo, Log, record_end, next_of}
 use Rattle.log_image.specs.Overlay.{images_of}
 use Rattle.log_batch.specs.Put.{put_all}
 use Rattle.log_batch.specs.PutLaws.{All-put}
 use Rattle.log_batch.specs.NewestLaws.{put_all-append, put_all_is_newest}
-use Rattle.recovery.specs.Follow.{IsFollowed, IsNext, NoLogTo, NoneNext}
+use Rattle.recovery.specs.Follow.{IsFollowed, IsNextInChain, NoLogTo, NoneNext}
 use Rattle.recovery.specs.Found.{Says}
 use Rattle.recovery.proofs.Places.{Stamped, some_sector}
 
@@ -30,23 +30,23 @@ none = record { bytes = [] }
 -- ---- chains
 
 -- neither positions nor commit numbers fall
-chain-bounds : (ring : List Sector) (position number : ℕ) (records : List LogRecord) (end next : ℕ) → IsChain ring position number records end next
+chain-bounds : (ring : List Sector) (position number : ℕ) (records : List LogRecord) (end next : ℕ) → IsRecordChain ring position number records end next
     → (position ≤ end) × (number ≤ next)
 chain-bounds ring position number [] end next h = (omega (arith, h.0), omega (arith, h.1))
 chain-bounds ring position number (item ∷ records) end next h =
-    let rest = chain-bounds ring (end_of item) (next_of item) records end next h.2 in
+    let rest = chain-bounds ring (record_end item) (next_of item) records end next h.2 in
     let begins : item.position ≡ position = h.0.begins in
     let first : item.first ≡ number = h.1 in
     (omega (arith, rest.0), omega (arith, rest.1))
 
 -- one record more
 chain-push : (ring : List Sector) (position number : ℕ) (records : List LogRecord) (end next : ℕ) (item : LogRecord)
-    → IsChain ring position number records end next → IsWholeAt ring end item → item.first ≡ next
-    → IsChain ring position number (records ++ item ∷ []) (end_of item) (next_of item)
+    → IsRecordChain ring position number records end next → IsWholeAt ring end item → item.first ≡ next
+    → IsRecordChain ring position number (records ++ item ∷ []) (record_end item) (next_of item)
 chain-push ring position number [] end next item h whole first =
     (subst (λ (p : ℕ). IsWholeAt ring p item) (sym h.0) whole, first ∙ sym h.1, (refl, refl))
 chain-push ring position number (other ∷ records) end next item h whole first =
-    (h.0, h.1, chain-push ring (end_of other) (next_of other) records end next item h.2 whole first)
+    (h.0, h.1, chain-push ring (record_end other) (next_of other) records end next item h.2 whole first)
 
 -- two whole records do not share a sector
 apart : Stamped → (ring : List Sector) (p q : ℕ) (a b : LogRecord) → IsWholeAt ring p a → IsWholeAt ring q b → p < q
@@ -62,15 +62,15 @@ apart stamped ring p q a b isa isb lt within =
 
 -- a chain with a record begins with the one that is whole there
 chain_from : One → (ring : List Sector) (position number : ℕ) (records : List LogRecord) (end next : ℕ) (head : LogRecord)
-    → IsChain ring position number records end next → position < end → IsWholeAt ring position head
-    → (number ≡ head.first) × IsChain ring position head.first records end next
+    → IsRecordChain ring position number records end next → position < end → IsWholeAt ring position head
+    → (number ≡ head.first) × IsRecordChain ring position head.first records end next
 chain_from one ring position number [] end next head h below whole = absurd (omega (arith, h.0))
 chain_from one ring position number (item ∷ records) end next head h below whole =
     let same : item.first ≡ head.first = ap (λ (r : LogRecord). r.first) (one ring position item head h.0 whole) in
     (sym h.1 ∙ same, (h.0, same, h.2))
 
 chain_some : (ring : List Sector) (position number : ℕ) (records : List LogRecord) (end next : ℕ)
-    → IsChain ring position number records end next → position < end → NoneWholeAt ring position → ⊥
+    → IsRecordChain ring position number records end next → position < end → NoneWholeAt ring position → ⊥
 chain_some ring position number [] end next h below absent = omega (arith, h.0)
 chain_some ring position number (item ∷ records) end next h below absent = absent item h.0
 
@@ -78,14 +78,14 @@ chain_some ring position number (item ∷ records) end next h below absent = abs
 
 -- a log that leads up to a record has a chain from that record's tail on
 to_chain : (ring : List Sector) (anchor : ℕ) (last : LogRecord) (log : Log) → IsLogTo ring anchor last log
-    → (first : ℕ) × (1 ≤ first) × IsChain ring last.tail first log.records log.end log.next
+    → (first : ℕ) × (1 ≤ first) × IsRecordChain ring last.tail first log.records log.end log.next
 to_chain ring anchor last log to = (
   to.chain.0,
   to.chain.1,
-  subst (λ (p : ℕ). IsChain ring p to.chain.0 log.records log.end log.next) to.tail to.chain.2,
+  subst (λ (p : ℕ). IsRecordChain ring p to.chain.0 log.records log.end log.next) to.tail to.chain.2,
 )
 
-tail_below : (ring : List Sector) (position : ℕ) (last : LogRecord) → IsLast ring position last → last.tail < end_of last
+tail_below : (ring : List Sector) (position : ℕ) (last : LogRecord) → IsLast ring position last → last.tail < record_end last
 tail_below ring position last is = let some = some_sector last in omega (arith, is.whole.form.tail)
 
 -- where there is no record at the tail, or its commits begin with the number 0, there is no log
@@ -105,7 +105,7 @@ zero_at_tail one ring anchor position last head is whole zero log to =
     omega (arith, from.0, chain.1)
 
 -- where the last record's end is no number of 64 bits, there is no log
-pub none_past_end : (ring : List Sector) (anchor : ℕ) (last : LogRecord) → (end_of last < 2 ^ 64 → ⊥) → NoLogTo ring anchor last
+pub none_past_end : (ring : List Sector) (anchor : ℕ) (last : LogRecord) → (record_end last < 2 ^ 64 → ⊥) → NoLogTo ring anchor last
 none_past_end ring anchor last past log to = past (omega (arith, to.end.0, to.end.1))
 
 -- at first no record is followed
@@ -127,22 +127,22 @@ followed_first one ring anchor position last head is whole = record {
 
 -- a log that goes on goes on with the record that is whole there
 rest_more : One → (ring : List Sector) (anchor position number : ℕ) (rest : List LogRecord) (end next : ℕ) (item : LogRecord)
-    → IsChain ring position number rest end next → All (λ r. All (IsGroupImage anchor) r.images) rest → position < end → IsWholeAt ring position item
-    → (more : List LogRecord) × IsChain ring (end_of item) (next_of item) more end next × All (λ r. All (IsGroupImage anchor) r.images) more
+    → IsRecordChain ring position number rest end next → All (λ r. All (IsGroupImage anchor) r.images) rest → position < end → IsWholeAt ring position item
+    → (more : List LogRecord) × IsRecordChain ring (record_end item) (next_of item) more end next × All (λ r. All (IsGroupImage anchor) r.images) more
 rest_more one ring anchor position number [] end next item h homes below whole = absurd (omega (arith, h.0))
 rest_more one ring anchor position number (other ∷ rest) end next item h homes below whole = (
   rest,
-  subst (λ (r : LogRecord). IsChain ring (end_of r) (next_of r) rest end next) (one ring position other item h.0 whole) h.2,
+  subst (λ (r : LogRecord). IsRecordChain ring (record_end r) (next_of r) rest end next) (one ring position other item h.0 whole) h.2,
   All-tail (λ (r : LogRecord). All (IsGroupImage anchor) r.images) other rest homes,
 )
 
 -- and with one that can be next
-rest_next : (ring : List Sector) (anchor position number : ℕ) (rest : List LogRecord) (end next : ℕ) → IsChain ring position number rest end next
+rest_next : (ring : List Sector) (anchor position number : ℕ) (rest : List LogRecord) (end next : ℕ) → IsRecordChain ring position number rest end next
     → All (λ r. All (IsGroupImage anchor) r.images) rest → position < end → end < 2 ^ 64 → next < 2 ^ 64
-    → (item : LogRecord) × IsNext ring anchor position number item
+    → (item : LogRecord) × IsNextInChain ring anchor position number item
 rest_next ring anchor position number [] end next h homes below end_fits next_fits = absurd (omega (arith, h.0))
 rest_next ring anchor position number (item ∷ rest) end next h homes below end_fits next_fits =
-    let bounds = chain-bounds ring (end_of item) (next_of item) rest end next h.2 in (
+    let bounds = chain-bounds ring (record_end item) (next_of item) rest end next h.2 in (
       item,
       record {
         whole = h.0;
@@ -155,18 +155,18 @@ rest_next ring anchor position number (item ∷ rest) end next h homes below end
 
 -- where a next record stands with respect to the last one
 next_stands : One → Stamped → (ring : List Sector) (position p : ℕ) (last item : LogRecord) → IsLast ring position last → IsWholeAt ring p item
-    → p ≤ last.position → (end_of item ≤ last.position) ⊎ ((end_of item ≡ end_of last) × (next_of item ≡ next_of last))
+    → p ≤ last.position → (record_end item ≤ last.position) ⊎ ((record_end item ≡ record_end last) × (next_of item ≡ next_of last))
 next_stands one stamped ring position p last item is whole le =
     let begins : item.position ≡ p = whole.begins in
     elim (cases_lt p last.position) [
-      | inl lt ↦ elim (cases_lt last.position (end_of item)) [
+      | inl lt ↦ elim (cases_lt last.position (record_end item)) [
         | inl over ↦ absurd (apart stamped ring p last.position item last whole is.whole lt (omega arith))
         | inr under ↦ inl under
       ]
       | inr ge ↦
           let here : p ≡ last.position = omega arith in
           let same : item ≡ last = one ring last.position item last (subst (λ (q : ℕ). IsWholeAt ring q item) here whole) is.whole in
-          inr (ap (λ (r : LogRecord). end_of r) same, ap (λ (r : LogRecord). next_of r) same)
+          inr (ap (λ (r : LogRecord). record_end r) same, ap (λ (r : LogRecord). next_of r) same)
     ]
 
 images_more : (records : List LogRecord) (item : LogRecord) → images_of (records ++ item ∷ []) ≡ images_of records ++ item.images
@@ -176,8 +176,8 @@ images_more records item =
 
 -- one record more is followed
 pub followed_more : One → Stamped → (ring : List Sector) (anchor position : ℕ) (last : LogRecord) (first p number : ℕ) (images : List Image) (item : LogRecord)
-    → IsLast ring position last → IsFollowed ring anchor last first p number images → p < end_of last → IsNext ring anchor p number item
-    → IsFollowed ring anchor last first (end_of item) (next_of item) (put_all item.images images)
+    → IsLast ring position last → IsFollowed ring anchor last first p number images → p < record_end last → IsNextInChain ring anchor p number item
+    → IsFollowed ring anchor last first (record_end item) (next_of item) (put_all item.images images)
 followed_more one stamped ring anchor position last first p number images item is done below next =
     let low : p ≤ last.position = elim done.stands [ inl le ↦ le | inr at ↦ absurd (omega (arith, at.0)) ] in record {
       records = done.records ++ item ∷ [];
@@ -194,7 +194,7 @@ followed_more one stamped ring anchor position last first p number images item i
 
 -- where no record can be next, there is no log
 pub followed_none : (ring : List Sector) (anchor : ℕ) (last : LogRecord) (first p number : ℕ) (images : List Image)
-    → IsFollowed ring anchor last first p number images → p < end_of last → NoneNext ring anchor p number → NoLogTo ring anchor last
+    → IsFollowed ring anchor last first p number images → p < record_end last → NoneNext ring anchor p number → NoLogTo ring anchor last
 followed_none ring anchor last first p number images done below absent log to =
     let rest = done.rest log to in
     let next = rest_next ring anchor p number rest.0 log.end log.next rest.1 rest.2 (omega (arith, to.end.0)) to.end.1 to.next.1 in
@@ -204,12 +204,12 @@ followed_none ring anchor last first p number images done below absent log to =
 
 -- up to the end all records of the log are followed
 pub followed_all : (ring : List Sector) (anchor : ℕ) (last : LogRecord) (first p number : ℕ) (images : List Image)
-    → IsFollowed ring anchor last first p number images → end_of last ≤ p → 1 ≤ first → end_of last < 2 ^ 64
+    → IsFollowed ring anchor last first p number images → record_end last ≤ p → 1 ≤ first → record_end last < 2 ^ 64
     → (log : Log) × IsLogTo ring anchor last log
-    × Says log (record { tail = last.tail; end = end_of last; next_commit = number; images = images })
+    × Says log (record { tail = last.tail; end = record_end last; next_commit = number; images = images })
 followed_all ring anchor last first p number images done past from end_fits =
     let some = some_sector last in
-    let at : (p ≡ end_of last) × (number ≡ next_of last) = elim done.stands [ inl le ↦ absurd (omega arith) | inr both ↦ both ] in (
+    let at : (p ≡ record_end last) × (number ≡ next_of last) = elim done.stands [ inl le ↦ absurd (omega arith) | inr both ↦ both ] in (
       record { tail = last.tail; end = p; next = number; records = done.records },
       record {
         tail = refl;

@@ -11,7 +11,7 @@ use Rattle.std.proofs.lemmas.Bool.{cases_lt}
 use Rattle.life_bytes.specs.declared.sector.Sector.{Sector}
 use Rattle.log_record.specs.declared.image.Image.{Image}
 use Rattle.log_image.specs.Overlay.{newest}
-use Rattle.log_batch.specs.Put.{put, Rises}
+use Rattle.log_batch.specs.Put.{put, KeysRise}
 use Rattle.log_batch.specs.PutLaws.{put_front, put_over, put_behind}
 use Rattle.log_batch.specs.NewestLaws.{newest-nil, newest_first, newest_rest}
 use Rattle.recovery.specs.Homes.{images_in}
@@ -41,7 +41,7 @@ images_in-insert (entry ∷ entries) home sector =
     ]
 
 -- what a map has at a home is the newest image of it
-pub newest-images_in : (low home : ℕ) (entries : List (ℕ × Sector)) → Rises (λ i. i.home) low (images_in entries)
+pub newest-images_in : (low home : ℕ) (entries : List (ℕ × Sector)) → KeysRise (λ i. i.home) low (images_in entries)
     → lookup (is_at (nat_cmp home)) entries ≡ newest home (images_in entries)
 newest-images_in low home [] rise = sym (newest-nil home)
 newest-images_in low home (entry ∷ entries) rise =

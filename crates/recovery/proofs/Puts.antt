@@ -7,7 +7,7 @@ use Rattle.disk_model.specs.Disk.{Cell, Elapses, HasOneImage, IsImage, as_read, 
 use Rattle.disk_model.specs.DiskLaws.{IsTorn, IsTorn-from_image, IsImage-one, length-torn}
 use Rattle.log_record.specs.declared.image.Image.{Image}
 use Rattle.log_image.specs.Overlay.{newest, overlaid}
-use Rattle.log_batch.specs.Put.{Rises}
+use Rattle.log_batch.specs.Put.{KeysRise}
 use Rattle.log_batch.specs.NewestLaws.{newest_first, newest_rest}
 use Rattle.recovery.specs.Homes.{images_in}
 use Rattle.recovery.specs.Put.{IsPartlyPut}
@@ -73,7 +73,7 @@ abbrev pub AreLeft : List Image → ℕ → List (ℕ × Sector) → Type 0
 AreLeft images limit [] = Unit {0}
 AreLeft images limit (entry ∷ entries) = (newest entry.0 images ≡ Some entry.1) × (entry.0 < limit) × AreLeft images limit entries
 
-left_behind : (low limit : ℕ) (x : Image) (xs : List Image) (entries : List (ℕ × Sector)) → AreLeft xs limit entries → Rises (λ i. i.home) low (images_in entries)
+left_behind : (low limit : ℕ) (x : Image) (xs : List Image) (entries : List (ℕ × Sector)) → AreLeft xs limit entries → KeysRise (λ i. i.home) low (images_in entries)
     → x.home < low → AreLeft (x ∷ xs) limit entries
 left_behind low limit x xs [] left rise below = tt
 left_behind low limit x xs (entry ∷ entries) left rise below = (
@@ -82,7 +82,7 @@ left_behind low limit x xs (entry ∷ entries) left rise below = (
   left_behind (entry.0 + 1) limit x xs entries left.2 rise.1 (omega (arith, rise.0)),
 )
 
-pub left_all : (low limit : ℕ) (entries : List (ℕ × Sector)) → Rises (λ i. i.home) low (images_in entries)
+pub left_all : (low limit : ℕ) (entries : List (ℕ × Sector)) → KeysRise (λ i. i.home) low (images_in entries)
     → All (λ image. image.home < limit) (images_in entries) → AreLeft (images_in entries) limit entries
 left_all low limit [] rise all = tt
 left_all low limit (entry ∷ entries) rise all =

@@ -8,7 +8,7 @@ use Rattle.log_image.specs.Anchor.{HasAnchor}
 use Rattle.log_image.specs.Damage.{LogBreaksFirst}
 use Rattle.log_image.specs.Log.{ring_part}
 use Rattle.recovery.specs.Broken.{BreaksLog}
-use Rattle.recovery.specs.Scan.{Tells}
+use Rattle.recovery.specs.Scan.{NamesLogDamage}
 use Rattle.recovery.specs.declared.fault.ScanFault.{ScanFault}
 use Rattle.recovery.specs.declared.fault.ScanFault.TheVariants.{Damaged, ReadFault, NoMemory}
 use Rattle.recovery.specs.declared.found.Found.{Found}
@@ -25,7 +25,7 @@ one_more reads from i sector one =
 -- what breaks the ring breaks the image
 pub tells : (image : List Sector) (anchor at ring position next : ℕ) (part : List Sector) (r : Result Found ScanFault)
     → HasAnchor image anchor ring position next → at ≡ anchor → part ≡ ring_part anchor ring image
-    → IfErr r (BreaksLog part at position) → IfErr r (Tells image anchor ring)
+    → IfErr r (BreaksLog part at position) → IfErr r (NamesLogDamage image anchor ring)
 tells image anchor at ring position next part (Ok found) has same is broken = tt
 tells image anchor at ring position next part (Err (Damaged rule s)) has same is broken =
     let breaks : LogBreaksFirst (ring_part anchor ring image) anchor position s =

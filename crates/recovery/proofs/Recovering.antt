@@ -17,7 +17,7 @@ use Rattle.log_image.specs.Overlay.{images_of, newest, overlaid}
 use Rattle.log_image.specs.Step.{IsPartlyHome}
 use Rattle.log_batch.specs.Newest.{IsNewestOf}
 use Rattle.log_batch.specs.NewestLaws.{newest-nil, newest_rest, none_some}
-use Rattle.recovery.specs.Found.{IsFound}
+use Rattle.recovery.specs.Found.{LogIsFound}
 use Rattle.recovery.specs.Put.{IsPartlyPut}
 use Rattle.recovery.specs.Replay.{BeginsAnew, IsBehind, IsEither, Recovers, groups_found}
 use Rattle.recovery.specs.declared.found.Found.{Found}
@@ -71,7 +71,7 @@ take_overlaid anchor sectors (image ∷ images) all =
 
 -- ---- while images are written home
 
-pub recovers_partly : Laws → (base : List Sector) (anchor ring : ℕ) (found : Found) → IsFound base anchor ring found → All (IsGroupImage anchor) found.images
+pub recovers_partly : Laws → (base : List Sector) (anchor ring : ℕ) (found : Found) → LogIsFound base anchor ring found → All (IsGroupImage anchor) found.images
     → (image : List Sector) → IsPartlyPut found.images base image → Recovers anchor ring (groups_found anchor base found) found.next_commit image
 recovers_partly laws base anchor ring found is homes image partly =
     let home = partly_home anchor is.log.records found.images base image is.found_is.images homes partly in
@@ -86,7 +86,7 @@ recovers_partly laws base anchor ring found is homes image partly =
 
 -- what is known of the disk in front of the anchor's write
 pub record Home (base : List Sector) (anchor ring : ℕ) (found : Found) (mid : List Sector) : Type 0 where
-  pub is : IsFound base anchor ring found
+  pub is : LogIsFound base anchor ring found
   pub homes : All (IsGroupImage anchor) found.images
   pub partly : IsPartlyPut found.images base mid
   pub reads : mid ≡ overlaid base found.images

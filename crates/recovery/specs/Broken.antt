@@ -3,7 +3,7 @@ use Rattle.std.specs.Prelude.{ℕ, ◌≡◌, ◌+◌, ◌⊎◌, List, length, 
 use Rattle.life_bytes.specs.declared.sector.Sector.{Sector}
 use Rattle.log_record.specs.declared.record.LogRecord.{LogRecord}
 use Rattle.log_image.specs.Damage.{ChainBreaks, LogBreaksFirst, log_rule}
-use Rattle.log_image.specs.Log.{HasNoLast, IsLast, IsLogTo, Log, empty_log, end_of}
+use Rattle.log_image.specs.Log.{HasNoLast, IsLast, IsLogTo, Log, empty_log, record_end}
 use Rattle.recovery.specs.High.{IsFirstReaching}
 use Rattle.recovery.specs.declared.fault.ScanFault.{ScanFault}
 use Rattle.recovery.specs.declared.fault.ScanFault.TheVariants.{Damaged, ReadFault, NoMemory}
@@ -14,7 +14,7 @@ IsLastOf ring position last = MatchOption last (HasNoLast ring position) (IsLast
 
 -- the position behind it, and where there is none the anchor's
 abbrev pub IsEndOf : ℕ → Option LogRecord → ℕ → Type 0
-IsEndOf position last end = MatchOption last (end ≡ position) (λ item. end ≡ end_of item)
+IsEndOf position last end = MatchOption last (end ≡ position) (λ item. end ≡ record_end item)
 
 -- the log leads up to the last record, or where there is none it is empty
 abbrev pub HasRecords : List Sector → ℕ → ℕ → ℕ → Log → Type 0

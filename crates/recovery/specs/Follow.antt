@@ -5,22 +5,22 @@ use Rattle.life_bytes.specs.declared.sector.Sector.{Sector}
 use Rattle.log_record.specs.declared.image.Image.{Image}
 use Rattle.log_record.specs.declared.record.LogRecord.{LogRecord}
 use Rattle.log_record.specs.Whole.{IsWholeAt}
-use Rattle.log_image.specs.Log.{IsChain, IsGroupImage, IsLogTo, Log, end_of, next_of}
+use Rattle.log_image.specs.Log.{IsRecordChain, IsGroupImage, IsLogTo, Log, record_end, next_of}
 use Rattle.log_image.specs.Overlay.{images_of}
 use Rattle.log_batch.specs.Put.{put_all}
 
 -- a record is whole at a position, its commits begin with a number, it has images of the groups' sectors, and the position
 -- and the number behind it are of 64 bits
-pub record IsNext (ring : List Sector) (anchor position number : ℕ) (item : LogRecord) : Type 0 where
+pub record IsNextInChain (ring : List Sector) (anchor position number : ℕ) (item : LogRecord) : Type 0 where
   pub whole : IsWholeAt ring position item
   pub first : item.first ≡ number
   pub homes : All (IsGroupImage anchor) item.images
-  pub end : end_of item < 2 ^ 64
+  pub end : record_end item < 2 ^ 64
   pub next : next_of item < 2 ^ 64
 
 -- no record is so
 abbrev pub NoneNext : List Sector → ℕ → ℕ → ℕ → Type 0
-NoneNext ring anchor position number = (item : LogRecord) → IsNext ring anchor position number item → ⊥
+NoneNext ring anchor position number = (item : LogRecord) → IsNextInChain ring anchor position number item → ⊥
 
 -- no log leads up to the last record
 abbrev pub NoLogTo : List Sector → ℕ → LogRecord → Type 0
@@ -31,11 +31,11 @@ NoLogTo ring anchor last = (log : Log) → IsLogTo ring anchor last log → ⊥
 -- record goes on from here.
 pub record IsFollowed (ring : List Sector) (anchor : ℕ) (last : LogRecord) (first position number : ℕ) (images : List Image) : Type 0 where
   pub records : List LogRecord
-  pub chain : IsChain ring last.tail first records position number
+  pub chain : IsRecordChain ring last.tail first records position number
   pub fits : number < 2 ^ 64
   pub homes : All (λ item. All (IsGroupImage anchor) item.images) records
   pub newest : images ≡ put_all (images_of records) []
-  pub stands : (position ≤ last.position) ⊎ ((position ≡ end_of last) × (number ≡ next_of last))
+  pub stands : (position ≤ last.position) ⊎ ((position ≡ record_end last) × (number ≡ next_of last))
   pub rest : (log : Log) → IsLogTo ring anchor last log
-      → (rest : List LogRecord) × IsChain ring position number rest log.end log.next
+      → (rest : List LogRecord) × IsRecordChain ring position number rest log.end log.next
       × All (λ item. All (IsGroupImage anchor) item.images) rest

@@ -20,7 +20,7 @@ HasGroupImages anchor found = All (IsGroupImage anchor) found.images
 
 -- An image's anchor and log are right, and this is what they say: the groups' sectors with the images over them are the
 -- replayed ones.
-pub record IsFound (image : List Sector) (anchor ring : ℕ) (found : Found) : Type 0 where
+pub record LogIsFound (image : List Sector) (anchor ring : ℕ) (found : Found) : Type 0 where
   pub log : Log
   pub says : IsLog image anchor ring log
   pub found_is : Says log found

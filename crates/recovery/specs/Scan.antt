@@ -9,10 +9,6 @@ use Rattle.log_image.specs.declared.anchor.Anchor.{Anchor}
 use Rattle.recovery.specs.declared.fault.ScanFault.{ScanFault}
 use Rattle.recovery.specs.declared.fault.ScanFault.TheVariants.{Damaged, ReadFault, NoMemory}
 
--- the number of the groups' sectors, behind which the anchor stands
-abbrev pub anchor_of : Geometry → ℕ
-anchor_of g = g.groups * group_sectors g
-
 -- a sector is a right anchor in front of a ring of so many sectors, with these numbers
 pub record IsStart (sector : Sector) (ring : ℕ) (start : Anchor) : Type 0 where
   pub encoded : sector ≡ anchor_sector start.position start.next_commit
@@ -31,7 +27,7 @@ NamesNoDamage ReadFault = Unit {0}
 NamesNoDamage NoMemory = Unit {0}
 
 -- Damage that is named is the first of an image's anchor and log.
-abbrev pub Tells : List Sector → ℕ → ℕ → ScanFault → Type 0
-Tells image anchor ring (Damaged rule sector) = IsLogDamage image anchor ring rule sector
-Tells image anchor ring ReadFault = Unit {0}
-Tells image anchor ring NoMemory = Unit {0}
+abbrev pub NamesLogDamage : List Sector → ℕ → ℕ → ScanFault → Type 0
+NamesLogDamage image anchor ring (Damaged rule sector) = IsLogDamage image anchor ring rule sector
+NamesLogDamage image anchor ring ReadFault = Unit {0}
+NamesLogDamage image anchor ring NoMemory = Unit {0}

@@ -2,7 +2,7 @@
 ghost use Rattle.std.specs.Prelude.{ℕ, ◌≡◌, ◌<◌, ◌≤◌, ◌^◌, ◌↔◌, IsTrue, IfOk, IfSome, MatchOption, SomeIff, length};
 ghost use Rattle.std.specs.List.{All};
 ghost use Rattle.life_limits.specs.declared.TheConstants.{MAX_IMAGES};
-ghost use Rattle.log_image.specs.Log.{IsGroupImage, IsLast, IsLogTo, Log, end_of, next_of};
+ghost use Rattle.log_image.specs.Log.{IsGroupImage, IsLast, IsLogTo, Log, record_end, next_of};
 ghost use Rattle.recovery.specs.Follow.{NoLogTo, NoneNext};
 ghost use Rattle.recovery.specs.Next.{HasNext};
 ghost use Rattle.recovery.specs.Found.{HasGroupImages, Says};
@@ -26,7 +26,7 @@ fn are_in_groups(images: &[Image], anchor: u64) -> bool
 /// The position behind a record, where it is a number of 64 bits.
 pub(crate) fn end_position(item: &LogRecord) -> Option<u64>
     requires { length item.now.images ≤ MAX_IMAGES }
-    ensures { SomeIff result (end_of item.now < 2 ^ 64) (end_of item.now) }
+    ensures { SomeIff result (record_end item.now < 2 ^ 64) (record_end item.now) }
 {
     let sectors = record_sectors(item.images.len() as u32);
     item.position.checked_add(u64::from(sectors))

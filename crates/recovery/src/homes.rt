@@ -25,14 +25,14 @@ pub struct HomeImages {
 impl Model for HomeImages {
     ghost use Rattle.std.specs.Prelude.{List};
     ghost use Rattle.log_record.specs.declared.image.Image.{Image};
-    ghost use Rattle.log_batch.specs.Put.{Rises};
+    ghost use Rattle.log_batch.specs.Put.{KeysRise};
     ghost use Rattle.recovery.specs.Homes.{images_in};
 
     ghost Value = { List Image };
 
     ghost view = { λ h. images_in h.sectors.entries };
 
-    ghost invariant = { λ h. Rises (λ i. i.home) 0 (images_in h.sectors.entries) };
+    ghost invariant = { λ h. KeysRise (λ i. i.home) 0 (images_in h.sectors.entries) };
 }
 
 impl HomeImages {

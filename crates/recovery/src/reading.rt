@@ -3,10 +3,11 @@
 ghost use Rattle.std.specs.Prelude.{ℕ, ◌≡◌, ◌≤◌, ◌<◌, ◌+◌, ◌*◌, ◌^◌, IsTrue, IsErrOf, IfOk, IfErr, MatchOption, length, take, drop};
 ghost use Rattle.life_ports.specs.Faults.{Rose};
 ghost use Rattle.geometry.specs.Shape.{IsGeometry};
+ghost use Rattle.geometry.specs.Places.{anchor_of};
 ghost use Rattle.disk_model.specs.Disk.{as_read};
 ghost use Rattle.disk_model.specs.View.{OnlyRead};
-ghost use Rattle.recovery.specs.Found.{HasGroupImages, IsFound};
-ghost use Rattle.recovery.specs.Scan.{IsStart, NamesNoDamage, NoStart, Tells, anchor_of};
+ghost use Rattle.recovery.specs.Found.{HasGroupImages, LogIsFound};
+ghost use Rattle.recovery.specs.Scan.{IsStart, NamesNoDamage, NoStart, NamesLogDamage};
 
 use crate::fault::ScanFault;
 use crate::found::Found;
@@ -69,8 +70,8 @@ fn read_sectors<D: Disk>(
 pub fn scan<D: Disk>(alloc: Global, disk: &mut D, g: &Geometry) -> Result<Found, ScanFault>
     requires shape { IsGeometry g.now }
     requires size { anchor_of g.now + 1 + g.now.ring ≤ D.sector_count disk.old }
-    ensures found { IsTrue D.known → IfOk result (IsFound (as_read (D.cells disk.old)) (anchor_of g.now) g.now.ring) }
-    ensures damaged { IsTrue D.known → IfErr result (Tells (as_read (D.cells disk.old)) (anchor_of g.now) g.now.ring) }
+    ensures found { IsTrue D.known → IfOk result (LogIsFound (as_read (D.cells disk.old)) (anchor_of g.now) g.now.ring) }
+    ensures damaged { IsTrue D.known → IfErr result (NamesLogDamage (as_read (D.cells disk.old)) (anchor_of g.now) g.now.ring) }
     ensures homes { IfOk result (HasGroupImages (anchor_of g.now)) }
     ensures number { IfOk result (λ found. 1 ≤ found.next_commit) }
     ensures only_reads { OnlyRead D.known D.cells D.sector_count D.fault_count D.arming D.moment D.left_since disk.old disk.new }

@@ -4,13 +4,13 @@ ghost use Rattle.std.specs.List.{All};
 ghost use Rattle.life_bytes.specs.declared.sector.Sector.{Sector};
 ghost use Rattle.life_ports.specs.Faults.{NeverFalls, Rose};
 ghost use Rattle.geometry.specs.Shape.{IsGeometry};
+ghost use Rattle.geometry.specs.Places.{anchor_of};
 ghost use Rattle.disk_model.specs.Disk.{Elapses, HasOneImage, IsAfterWrites, IsImage, as_read};
 ghost use Rattle.log_image.specs.Anchor.{anchor_sector};
 ghost use Rattle.log_image.specs.Overlay.{overlaid};
-ghost use Rattle.recovery.specs.Found.{HasGroupImages, IsFound};
+ghost use Rattle.recovery.specs.Found.{HasGroupImages, LogIsFound};
 ghost use Rattle.recovery.specs.Put.{IsPartlyPut};
 ghost use Rattle.recovery.specs.Replay.{AreUsedUp, BeginsAnew, HasDeviceCause, IsBehind, IsEither, Recovers, groups_found};
-ghost use Rattle.recovery.specs.Scan.{anchor_of};
 
 use crate::found::Found;
 use crate::homes::HomeImages;
@@ -88,7 +88,7 @@ pub fn replay<D: Disk>(disk: &mut D, g: &Geometry, found: &Found) -> Result<Star
     requires shape { IsGeometry g.now }
     requires size { anchor_of g.now + 1 + g.now.ring ≤ D.sector_count disk.old }
     requires homes { HasGroupImages (anchor_of g.now) found.now }
-    requires found { IsTrue D.known → IsFound (as_read (D.cells disk.old)) (anchor_of g.now) g.now.ring found.now }
+    requires found { IsTrue D.known → LogIsFound (as_read (D.cells disk.old)) (anchor_of g.now) g.now.ring found.now }
     requires one { IsTrue D.known → HasOneImage (D.cells disk.old) }
     ensures start { IfOk result (IsBehind g.now.ring found.now) }
     ensures anew { IsTrue D.known → IfOk result (BeginsAnew (anchor_of g.now) g.now.ring

@@ -14,8 +14,8 @@ use Rattle.script.specs.declared.commands.Control.{Control}
 use Rattle.script.specs.declared.types.Command.{Command}
 use Rattle.script.specs.Words.{Kind, FitAll, is_letter, words_of}
 use Rattle.script.specs.Words.Kind.{actor}
-use Rattle.script.specs.Commands.{written_so, call_word, call_kinds, call_of, calls, control_word, control_of, controls}
-use Rattle.script.specs.Rules.{Outline, Known, call_outline, outline_at, begin_outline, control_outline, plain_outline, outline, Breaks, IsInside, is_stray}
+use Rattle.script.specs.Commands.{written_so, call_word, call_kinds, call_named, calls, control_word, control_of, controls}
+use Rattle.script.specs.Rules.{Outline, Known, call_outline, outline_at, begin_outline, control_outline, plain_outline, outline, LineBreaks, IsInside, is_stray}
 use Rattle.script.specs.Meaning.{Denotes, IsCommand}
 use Rattle.script.specs.Reading.{BreaksAt, IsOutlineFault, ReadsAs, IsLineFault}
 
@@ -30,8 +30,8 @@ written_word {C = C} word_of (d ∷ cs) word c found =
     ]
     in by (bytes_eq word (word_of d)) refl found
 
-pub call_written : (word : List ℕ) (call : Call) → Some call ≡ call_of word → word ≡ call_word call
-unfolding call_of
+pub call_written : (word : List ℕ) (call : Call) → Some call ≡ call_named word → word ≡ call_word call
+unfolding call_named
 call_written word call found = written_word call_word calls word call (sym found)
 
 pub control_written : (word : List ℕ) (control : Control) → Some control ≡ control_of word → word ≡ control_word control
@@ -65,21 +65,21 @@ known_misfit kinds words count misfit = (
   ],
 )
 
-pub call_right : (words rest : List (List ℕ)) (word : List ℕ) (call : Call) → words ≡ word ∷ rest → Some call ≡ call_of word → FitAll (call_kinds call) rest
+pub call_right : (words rest : List (List ℕ)) (word : List ℕ) (call : Call) → words ≡ word ∷ rest → Some call ≡ call_named word → FitAll (call_kinds call) rest
     → (r : Rule) → BreaksAt r (call_outline [] [] words) → ⊥
 call_right words rest word call is found fit r h =
     known_right (call_kinds call) rest fit r (subst (λ (o : Option Call). BreaksAt r (outline_at [] [] rest o)) (sym found) (subst (λ (w : List (List ℕ)). BreaksAt r (call_outline [] [] w)) is h))
 
-begin_known : (words rest : List (List ℕ)) (who word : List ℕ) (call : Call) → words ≡ who ∷ word ∷ rest → Some call ≡ call_of word
+begin_known : (words rest : List (List ℕ)) (who word : List ℕ) (call : Call) → words ≡ who ∷ word ∷ rest → Some call ≡ call_named word
     → begin_outline words ≡ Known ((actor ∷ call_kinds call) ∷ []) (who ∷ rest)
 begin_known words rest who word call is found = ap begin_outline is ∙ sym (ap (outline_at (actor ∷ []) (who ∷ []) rest) found)
 
-pub begin_right : (words rest : List (List ℕ)) (who word : List ℕ) (call : Call) → words ≡ who ∷ word ∷ rest → Some call ≡ call_of word → IsTrue (is_letter who)
+pub begin_right : (words rest : List (List ℕ)) (who word : List ℕ) (call : Call) → words ≡ who ∷ word ∷ rest → Some call ≡ call_named word → IsTrue (is_letter who)
     → FitAll (call_kinds call) rest → (r : Rule) → BreaksAt r (begin_outline words) → ⊥
 begin_right words rest who word call is found letter fit r h =
     known_right (actor ∷ call_kinds call) (who ∷ rest) (letter, fit) r (subst (BreaksAt r) (begin_known words rest who word call is found) h)
 
-pub begin_misfit : (words rest : List (List ℕ)) (who word : List ℕ) (call : Call) → words ≡ who ∷ word ∷ rest → Some call ≡ call_of word → is_letter who ≡ false
+pub begin_misfit : (words rest : List (List ℕ)) (who word : List ℕ) (call : Call) → words ≡ who ∷ word ∷ rest → Some call ≡ call_named word → is_letter who ≡ false
     → FitAll (call_kinds call) rest → IsOutlineFault (begin_outline words) (fault.Breaks rule.WordForm)
 begin_misfit words rest who word call is found none fit =
     subst (λ (o : Outline). IsOutlineFault o (fault.Breaks rule.WordForm)) (sym (begin_known words rest who word call is found))
@@ -89,22 +89,22 @@ pub plain_right : (words : List (List ℕ)) (o : Option Call) (control : Option 
     → (r : Rule) → BreaksAt r (plain_outline words o control) → ⊥
 plain_right words o control call found fit r h = known_right (call_kinds call) words fit r (subst (λ (p : Option Call). BreaksAt r (plain_outline words p control)) (sym found) h)
 
-pub plain_control : (words : List (List ℕ)) (first : List ℕ) (control : Control) (result : Result Command LineFault) → None ≡ call_of first → Some control ≡ control_of first
-    → ReadsAs (control_outline words control) (control_word control ∷ words) result → ReadsAs (plain_outline words (call_of first) (control_of first)) (first ∷ words) result
+pub plain_control : (words : List (List ℕ)) (first : List ℕ) (control : Control) (result : Result Command LineFault) → None ≡ call_named first → Some control ≡ control_of first
+    → ReadsAs (control_outline words control) (control_word control ∷ words) result → ReadsAs (plain_outline words (call_named first) (control_of first)) (first ∷ words) result
 plain_control words first control result no_call found reads =
     subst (λ (o : Option Call). ReadsAs (plain_outline words o (control_of first)) (first ∷ words) result) no_call
     (subst (λ (o : Option Control). ReadsAs (plain_outline words None o) (first ∷ words) result) found
     (subst (λ (w : List ℕ). ReadsAs (control_outline words control) (w ∷ words) result) (sym (control_written first control found)) reads))
 
 -- the rules of a line without stray bytes are those of its outline
-to_line : (line : List ℕ) (r : Rule) → BreaksAt r (outline (words_of line)) → Breaks r line
+to_line : (line : List ℕ) (r : Rule) → BreaksAt r (outline (words_of line)) → LineBreaks r line
 to_line line rule.Bytes h = absurd h
 to_line line rule.FirstWord h = h
 to_line line rule.WordCount h = h
 to_line line rule.WordForm h = h
 to_line line rule.CallFollows h = h
 
-from_line : (line : List ℕ) → list_any is_stray line ≡ false → (r : Rule) → Breaks r line → BreaksAt r (outline (words_of line))
+from_line : (line : List ℕ) → list_any is_stray line ≡ false → (r : Rule) → LineBreaks r line → BreaksAt r (outline (words_of line))
 from_line line clean rule.Bytes h = both_ways (list_any is_stray line) clean h
 from_line line clean rule.FirstWord h = h
 from_line line clean rule.WordCount h = h

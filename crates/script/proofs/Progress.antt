@@ -10,7 +10,7 @@ use Rattle.script.specs.declared.fault.LineFault.{LineFault}
 use Rattle.script.specs.declared.fault.LineFault.TheVariants as fault
 use Rattle.script.specs.declared.fault.ScriptFault.TheVariants as script
 use Rattle.script.specs.declared.types.Line.{Line}
-use Rattle.script.specs.Rules.{IsInside, IsLeast, rule_number}
+use Rattle.script.specs.Rules.{IsInside, IsLeastBroken, rule_number}
 use Rattle.script.specs.Reading.{IsLineFault, fault_at}
 use Rattle.script.specs.Scripts.{Numbered, IsReadAs, IsFirstFault, is_skipped, lines_of, numbered}
 
@@ -72,7 +72,7 @@ first_fault asking lines number text rest all (fault.Breaks r) line named (done,
 first_fault asking lines number text rest all fault.NoMemory line named so_far here kept least told = absurd cc
 
 -- a line that breaks a rule is not in the grammar
-outside : (asking : Numbered) (r : Rule) → IsLeast r asking.text → IsInside asking.text → ⊥
+outside : (asking : Numbered) (r : Rule) → IsLeastBroken r asking.text → IsInside asking.text → ⊥
 outside asking r least inside = inside r least.0
 
 -- of two first lines outside the grammar
@@ -87,7 +87,7 @@ same_line (b ∷ before) [] at at' behind behind' is h h' bad bad' =
 same_line (b ∷ before) (b' ∷ before') at at' behind behind' is h h' bad bad' =
     let rest : before ++ at ∷ behind ≡ before' ++ at' ∷ behind' = cc in same_line before before' at at' behind behind' rest h.1 h'.1 bad bad'
 
-pub same_rule : (text : List ℕ) (r r' : Rule) → IsLeast r text → IsLeast r' text → rule_number r ≡ rule_number r'
+pub same_rule : (text : List ℕ) (r r' : Rule) → IsLeastBroken r text → IsLeastBroken r' text → rule_number r ≡ rule_number r'
 same_rule text r r' least least' =
     elim (cases_lt (rule_number r) (rule_number r')) [
       | inl low ↦ absurd (least'.1 r low least.0)
@@ -103,7 +103,7 @@ one_fault asking line rule line' rule' f f' =
     same_line f.before f'.before f.at f'.at f.behind f'.behind (sym f.lines ∙ f'.lines) f.inside f'.inside (outside f.at f.broken f.least) (outside f'.at f'.broken f'.least)
     in (
       f.number ∙ ap (λ (n : Numbered). n.number) same ∙ sym f'.number,
-      f.named ∙ same_rule f'.at.text f.broken f'.broken (subst (λ (n : Numbered). IsLeast f.broken n.text) same f.least) f'.least ∙ sym f'.named,
+      f.named ∙ same_rule f'.at.text f.broken f'.broken (subst (λ (n : Numbered). IsLeastBroken f.broken n.text) same f.least) f'.least ∙ sym f'.named,
     )
 
 found_inside : (before : List Numbered) (at : Numbered) (behind : List Numbered) → AllByRecursion (λ earlier. IsInside earlier.text) (before ++ at ∷ behind) → IsInside at.text

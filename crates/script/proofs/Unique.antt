@@ -17,7 +17,7 @@ use Rattle.script.specs.declared.types.Command.TheVariants as command
 use Rattle.script.specs.declared.types.Spoken.{Spoken}
 use Rattle.script.specs.declared.types.Spoken.TheVariants as spoken
 use Rattle.script.specs.Words.{letter_of}
-use Rattle.script.specs.Commands.{call_of, call_word, control_of, control_word}
+use Rattle.script.specs.Commands.{call_named, call_word, control_of, control_word}
 use Rattle.script.specs.Meaning.{IsCommand, IsSpoken, Denotes, spoken_words}
 use Rattle.script.proofs.Checked.{control_written}
 
@@ -47,8 +47,8 @@ same_handle a b ok ok' is =
     λ i. record { number = number i; generation = life i }
 
 -- calls with one command are one
-word_call : (c : Call) → call_of (call_word c) ≡ Some c
-unfolding call_of
+word_call : (c : Call) → call_named (call_word c) ≡ Some c
+unfolding call_named
 word_call call.Create = refl
 word_call call.Tmpfile = refl
 word_call call.Open = refl
@@ -65,7 +65,7 @@ word_call call.Flush = refl
 word_call call.Reclaim = refl
 
 same_call : (c d : Call) → call_word c ≡ call_word d → c ≡ d
-same_call c d is = let e : Some c ≡ Some d = sym (word_call c) ∙ ap call_of is ∙ word_call d in cc
+same_call c d is = let e : Some c ≡ Some d = sym (word_call c) ∙ ap call_named is ∙ word_call d in cc
 
 abbrev spoken_call : Spoken → Call
 spoken_call (spoken.Create group name) = call.Create

@@ -64,8 +64,8 @@ written_so word_of [] word = None
 written_so word_of (c ∷ cs) word = if bytes_eq word (word_of c) then Some c else written_so word_of cs word
 
 -- the call with this command, if there is one
-unfoldable pub call_of : List ℕ → Option Call
-call_of word = written_so call_word calls word
+unfoldable pub call_named : List ℕ → Option Call
+call_named word = written_so call_word calls word
 
 -- the control line with this word, if there is one
 unfoldable pub control_of : List ℕ → Option Control

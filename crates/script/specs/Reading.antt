@@ -9,13 +9,13 @@ use Rattle.script.specs.declared.fault.ScriptFault.TheVariants as script
 use Rattle.script.specs.declared.read.StopWords.{StopWords}
 use Rattle.script.specs.declared.read.StopWords.TheVariants as stop
 use Rattle.script.specs.declared.types.Command.{Command}
-use Rattle.script.specs.Words.{Kind, Fits, FitAll}
-use Rattle.script.specs.Rules.{Outline, HasNoCommand, HasWrongCount, HasWrongWord, HasNoCall, IsLeast, rule_number}
+use Rattle.script.specs.Words.{Kind, IsOfKind, FitAll}
+use Rattle.script.specs.Rules.{Outline, HasNoCommand, HasWrongCount, HasWrongWord, HasNoCall, IsLeastBroken, rule_number}
 use Rattle.script.specs.Meaning.{Denotes, IsCommand}
 
 -- a word is not of this form, or there was no memory
 abbrev pub IsWordFault : Kind → List ℕ → LineFault → Type 0
-IsWordFault kind word (fault.Breaks rule.WordForm) = ¬ Fits kind word
+IsWordFault kind word (fault.Breaks rule.WordForm) = ¬ IsOfKind kind word
 IsWordFault kind word (fault.Breaks rule.Bytes) = ⊥
 IsWordFault kind word (fault.Breaks rule.FirstWord) = ⊥
 IsWordFault kind word (fault.Breaks rule.WordCount) = ⊥
@@ -50,7 +50,7 @@ ReadsAs at words result = MatchResult result (λ command. ((r : Rule) → ¬ Bre
 
 -- a line was refused by the least rule that it breaks
 abbrev pub IsLineFault : List ℕ → LineFault → Type 0
-IsLineFault line (fault.Breaks r) = IsLeast r line
+IsLineFault line (fault.Breaks r) = IsLeastBroken r line
 IsLineFault line fault.NoMemory = Unit {0}
 
 -- the words behind a stop: none, two, or another number

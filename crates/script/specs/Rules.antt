@@ -8,7 +8,7 @@ use Rattle.script.specs.declared.commands.Control.{Control}
 use Rattle.script.specs.declared.commands.Control.TheVariants as control
 use Rattle.script.specs.Words.{Kind, FitAll, is_letter, words_of}
 use Rattle.script.specs.Words.Kind.{actor, name, handle, write, sectors}
-use Rattle.script.specs.Commands.{call_kinds, call_of, control_of}
+use Rattle.script.specs.Commands.{call_kinds, call_named, control_of}
 
 -- the numbers by which the rules are named
 abbrev pub rule_number : Rule → ℕ
@@ -36,7 +36,7 @@ outline_at kinds ahead rest (Some call) = Known ((kinds ++ call_kinds call) ∷ 
 
 abbrev pub call_outline : List Kind → List (List ℕ) → List (List ℕ) → Outline
 call_outline kinds ahead [] = Short
-call_outline kinds ahead (word ∷ rest) = outline_at kinds ahead rest (call_of word)
+call_outline kinds ahead (word ∷ rest) = outline_at kinds ahead rest (call_named word)
 
 -- behind `begin`: an actor, and a call
 abbrev pub begin_outline : List (List ℕ) → Outline
@@ -61,7 +61,7 @@ plain_outline rest None None = Unknown
 
 abbrev pub outline : List (List ℕ) → Outline
 outline [] = Unknown
-outline (first ∷ rest) = if is_letter first then call_outline [] [] rest else plain_outline rest (call_of first) (control_of first)
+outline (first ∷ rest) = if is_letter first then call_outline [] [] rest else plain_outline rest (call_named first) (control_of first)
 
 -- no command and no actor's letter stands first
 abbrev pub HasNoCommand : Outline → Type 0
@@ -96,17 +96,17 @@ abbrev pub is_stray : ℕ → Bool
 is_stray b = nat_lt b 32 || nat_lt 126 b
 
 -- the line breaks the rule
-abbrev pub Breaks : Rule → List ℕ → Type 0
-Breaks rule.Bytes line = IsTrue (list_any is_stray line)
-Breaks rule.FirstWord line = HasNoCommand (outline (words_of line))
-Breaks rule.WordCount line = HasWrongCount (outline (words_of line))
-Breaks rule.WordForm line = HasWrongWord (outline (words_of line))
-Breaks rule.CallFollows line = HasNoCall (outline (words_of line))
+abbrev pub LineBreaks : Rule → List ℕ → Type 0
+LineBreaks rule.Bytes line = IsTrue (list_any is_stray line)
+LineBreaks rule.FirstWord line = HasNoCommand (outline (words_of line))
+LineBreaks rule.WordCount line = HasWrongCount (outline (words_of line))
+LineBreaks rule.WordForm line = HasWrongWord (outline (words_of line))
+LineBreaks rule.CallFollows line = HasNoCall (outline (words_of line))
 
 -- the line is in the grammar
 abbrev pub IsInside : List ℕ → Type 0
-IsInside line = (r : Rule) → ¬ Breaks r line
+IsInside line = (r : Rule) → ¬ LineBreaks r line
 
 -- of the rules that the line breaks, this is the least
-abbrev pub IsLeast : Rule → List ℕ → Type 0
-IsLeast r line = Breaks r line × ((other : Rule) → rule_number other < rule_number r → ¬ Breaks other line)
+abbrev pub IsLeastBroken : Rule → List ℕ → Type 0
+IsLeastBroken r line = LineBreaks r line × ((other : Rule) → rule_number other < rule_number r → ¬ LineBreaks other line)

@@ -4,7 +4,7 @@ use Rattle.std.specs.List.{slice_split, AllZip, AllByRecursion}
 use Rattle.script.specs.declared.fault.Rule.{Rule}
 use Rattle.script.specs.declared.types.Line.{Line}
 use Rattle.script.specs.Words.{words_of}
-use Rattle.script.specs.Rules.{IsInside, IsLeast, rule_number}
+use Rattle.script.specs.Rules.{IsInside, IsLeastBroken, rule_number}
 use Rattle.script.specs.Meaning.{Denotes, IsCommand}
 
 -- the lines of a script, cut at line feeds; behind the last one stands an empty line
@@ -55,5 +55,5 @@ pub record IsFirstFault (asking : List Numbered) (line rule : ℕ) : Type 0 wher
   pub inside : AllByRecursion (λ earlier. IsInside earlier.text) before
   pub number : line ≡ at.number
   pub broken : Rule
-  pub least : IsLeast broken at.text
+  pub least : IsLeastBroken broken at.text
   pub named : rule ≡ rule_number broken

@@ -32,8 +32,8 @@ abbrev pub letter_of : ℕ → List ℕ
 letter_of actor = (65 + actor) ∷ []
 
 -- the decimal of a number within these bounds, which has no leading zero
-abbrev pub IsNumber : ℕ → ℕ → List ℕ → Type 0
-IsNumber low high word = (n : ℕ) × (low ≤ n) × (n ≤ high) × (word ≡ decimal n)
+abbrev pub IsDecimal : ℕ → ℕ → List ℕ → Type 0
+IsDecimal low high word = (n : ℕ) × (low ≤ n) × (n ≤ high) × (word ≡ decimal n)
 
 -- the text of a handle
 abbrev pub IsHandleText : List ℕ → Type 0
@@ -53,18 +53,18 @@ pub data Kind : Type 0 where
   sectors : Kind
 
 -- a word is of its form
-abbrev pub Fits : Kind → List ℕ → Type 0
-Fits actor word = IsTrue (is_letter word)
-Fits name word = IsTrue (is_name word)
-Fits handle word = IsHandleText word
-Fits group word = IsNumber 0 4294967295 word
-Fits blocks word = IsNumber 1 MAX_BLOCKS word
-Fits write word = IsNumber 1 4294967295 word
-Fits sectors word = IsNumber 0 4294967295 word
+abbrev pub IsOfKind : Kind → List ℕ → Type 0
+IsOfKind actor word = IsTrue (is_letter word)
+IsOfKind name word = IsTrue (is_name word)
+IsOfKind handle word = IsHandleText word
+IsOfKind group word = IsDecimal 0 4294967295 word
+IsOfKind blocks word = IsDecimal 1 MAX_BLOCKS word
+IsOfKind write word = IsDecimal 1 4294967295 word
+IsOfKind sectors word = IsDecimal 0 4294967295 word
 
 -- as many words as kinds, each of its form
 abbrev pub FitAll : List Kind → List (List ℕ) → Type 0
 FitAll [] [] = Unit {0}
-FitAll (kind ∷ kinds) (word ∷ words) = Fits kind word × FitAll kinds words
+FitAll (kind ∷ kinds) (word ∷ words) = IsOfKind kind word × FitAll kinds words
 FitAll [] (word ∷ words) = ⊥
 FitAll (kind ∷ kinds) [] = ⊥

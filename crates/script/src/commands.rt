@@ -1,7 +1,7 @@
 // The first words of lines.
 
 ghost use Rattle.std.specs.Prelude.{◌≡◌};
-ghost use Rattle.script.specs.Commands.{call_of, control_of};
+ghost use Rattle.script.specs.Commands.{call_named, control_of};
 
 /// A call, by its command.
 #[derive(Clone, Copy)]
@@ -37,7 +37,7 @@ pub(crate) enum Control {
 /// The call with this command.
 #[tactic(auto, unfolding(crate::specs::Commands::call_of))]
 pub(crate) fn read_call(word: &[u8]) -> Option<Call>
-    ensures { result ≡ call_of word.now }
+    ensures { result ≡ call_named word.now }
 {
     match word {
         b"create" => Some(Call::Create),

@@ -6,7 +6,7 @@ ghost use Rattle.std.specs.List.{list_any};
 ghost use Rattle.life_limits.specs.declared.TheConstants.{MAX_ACTORS, MAX_BLOCKS};
 ghost use Rattle.life_table.specs.Handles.{handle_text, IsHandle};
 ghost use Rattle.script.specs.Words.{Kind as kind, FitAll, is_name, letter_of, words_of};
-ghost use Rattle.script.specs.Commands.{call_kinds, call_of, call_word, control_of, control_word};
+ghost use Rattle.script.specs.Commands.{call_kinds, call_named, call_word, control_of, control_word};
 ghost use Rattle.script.specs.Rules.{begin_outline, call_outline, control_outline, plain_outline, is_stray, outline, IsInside};
 ghost use Rattle.script.specs.Rules.{Outline as outline_of};
 ghost use Rattle.script.specs.Meaning.{IsCommand, IsSpoken, Denotes, spoken_words};
@@ -299,7 +299,7 @@ fn read_control_line(alloc: Global, control: Control, words: Pieces) -> Result<C
 
 /// A line that does not begin with an actor's letter, from its first word on.
 fn read_plain(alloc: Global, first: &[u8], words: Pieces) -> Result<Command, LineFault>
-    ensures { ReadsAs (plain_outline words.entry (call_of first.now) (control_of first.now)) (first.now ∷ words.entry) result }
+    ensures { ReadsAs (plain_outline words.entry (call_named first.now) (control_of first.now)) (first.now ∷ words.entry) result }
 {
     match read_call(first) {
         Some(call) => {

@@ -8,7 +8,7 @@ ghost use Rattle.life_limits.specs.declared.TheConstants.{MAX_ACTORS};
 ghost use Rattle.life_table.specs.declared.key.Key.{Key};
 ghost use Rattle.life_table.specs.Handles.{handle_text, IsHandle};
 ghost use Rattle.script.specs.Words as words;
-ghost use Rattle.script.specs.Words.{is_letter, letter_of, IsNumber, IsHandleText};
+ghost use Rattle.script.specs.Words.{is_letter, letter_of, IsDecimal, IsHandleText};
 
 use life_table::{Handle, read_handle};
 
@@ -63,7 +63,7 @@ fn text_of(word: &[u8]) -> Option<&str>
 /// The number that this word is the decimal of, where it lies within these bounds.
 pub(crate) fn read_number(word: &[u8], low: u32, high: u32) -> Option<u32>
     ensures found { IfSome result (λ n. (low ≤ n) × (n ≤ high) × (word.now ≡ decimal n)) }
-    ensures none { IfNone result (IsNumber low high word.now → ⊥) }
+    ensures none { IfNone result (IsDecimal low high word.now → ⊥) }
 {
     let number = life_table::read_number(text_of(word)?)?;
     if u64::from(low) <= number && number <= u64::from(high) {

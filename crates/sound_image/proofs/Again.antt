@@ -8,33 +8,33 @@ use Rattle.std.proofs.lemmas.List.{same_lists, get_or_default, take_at, drop_at,
 use Rattle.std.proofs.lemmas.List.FromFn.{length-map-range_with_len, get_or-map-range_with_len}
 use Rattle.std.proofs.lemmas.Nat.{div_below, div-add-mod', mod_below}
 use Rattle.life_bytes.specs.declared.sector.Sector.{Sector}
-use Rattle.life_bytes.specs.Sectors.{zero_sector}
+use Rattle.life_bytes.specs.Sectors.{zero_sector, AreSectors}
 use Rattle.geometry.specs.declared.shape.Geometry.{Geometry}
 use Rattle.geometry.specs.Places.{group_sectors}
 use Rattle.geometry.specs.Shape.{IsGeometry}
 use Rattle.inode_core.specs.declared.shape.Core.{Core}
 use Rattle.inode_core.specs.Cores.{fork_of}
-use Rattle.inode_core.specs.Cores.{encoding as core_encoding}
+use Rattle.inode_core.specs.Cores.{core_encoding}
 use Rattle.extent_fork.specs.Forks.{fork as fork_bytes}
 use Rattle.extent_fork.specs.Reading.{runs_in}
 use Rattle.extent_fork.specs.Runs.{runs}
 use Rattle.ag_header.specs.declared.agi.Agi.{Agi}
-use Rattle.ag_header.specs.Headers.{encoding as header_encoding}
+use Rattle.ag_header.specs.Headers.{header_encoding}
 use Rattle.inobt_leaf.specs.declared.chunk.ChunkRec.{ChunkRec}
-use Rattle.inobt_leaf.specs.Pages.{encoding as page_encoding}
+use Rattle.inobt_leaf.specs.Pages.{page_encoding}
 use Rattle.free_map.specs.Bitmap.{bitmap}
 use Rattle.life_table.specs.declared.types.Row.{Row}
 use Rattle.life_table.specs.declared.table.Inode.{Inode}
 use Rattle.life_table.specs.declared.table.Table.{Table}
-use Rattle.life_table.specs.Table.{Group, group_of, inode_in}
+use Rattle.life_table.specs.Table.{Group, group_at, inode_in}
 use Rattle.life_table.specs.Space.{times}
 use Rattle.life_table.specs.WellFormed.{IsGroup}
 use Rattle.life_limits.specs.declared.TheConstants.{NO_INODE}
-use Rattle.sound_image.specs.Places.{AreSectors, bytes_at, bytes_from, part, sector_in, number_in}
+use Rattle.sound_image.specs.Places.{bytes_at, bytes_from, part, sector_in, number_in}
 use Rattle.sound_image.specs.Reading.{header_of, page_sector, records_of, inode_bytes, core_of, blocks_in, group_read, row_at, rows_of}
 use Rattle.sound_image.specs.Rules.{free_set, IsListed, pointer}
-use Rattle.sound_image.specs.Damage.{header, tree, core, fork, bitmap as bitmap_rule, pointers, lists, IsSound}
-use Rattle.sound_image.specs.Encoding.{Layout, Layouts, layout_of, page_of, list_of, head_of, next_in, is_unlinked, AreLayouts, header_for, core_for, fork_for, inode_sector, page_place, page_bytes, metadata, encoded, CanEncode}
+use Rattle.sound_image.specs.Damage.{header, tree, core, fork, bitmap as bitmap_rule, pointers, lists, AreGroupsSound}
+use Rattle.sound_image.specs.Encoding.{Layout, Layouts, layout_of, page_of, bucket_list, head_of, next_in, is_unlinked, AreLayouts, header_for, core_for, fork_for, inode_sector, page_place, page_bytes, metadata, encoded, CanEncode}
 use Rattle.sound_image.proofs.Buckets.{head_at, next_none}
 use Rattle.sound_image.proofs.Found.{found, inode_found, row_found}
 use Rattle.sound_image.proofs.Groups.{all_in_data, in_range}
@@ -53,7 +53,7 @@ use Rattle.sound_image.proofs.Tables.{table_right, group_right, good_group, leng
 abbrev HasLayout : (g : Geometry) (image : List Sector) → ℕ → Layout → Type 0
 HasLayout g image group layout = (layout.page ≡ (header_of g image group).root) × ((bucket : ℕ) → bucket < 64 → IsList g image group bucket (get_or layout.buckets bucket []))
 
-one_layout : (g : Geometry) (image : List Sector) (group : ℕ) → IsSound g image → group < g.groups → (layout : Layout) × HasLayout g image group layout
+one_layout : (g : Geometry) (image : List Sector) (group : ℕ) → AreGroupsSound g image → group < g.groups → (layout : Layout) × HasLayout g image group layout
 one_layout g image group sound lt =
     let ends = sound pointers group lt in
     let f =
@@ -63,10 +63,10 @@ one_layout g image group sound lt =
 -- what the layouts of an image are
 pub record AreRead (g : Geometry) (image : List Sector) (layouts : Layouts) : Type 0 where
   pub page : (group : ℕ) → group < g.groups → page_of layouts group ≡ (header_of g image group).root
-  pub list : (group bucket : ℕ) → group < g.groups → bucket < 64 → IsList g image group bucket (list_of layouts group bucket)
+  pub list : (group bucket : ℕ) → group < g.groups → bucket < 64 → IsList g image group bucket (bucket_list layouts group bucket)
 
-pub layouts_read : (g : Geometry) (image : List Sector) → IsSound g image → (layouts : Layouts) × AreRead g image layouts
-unfolding layout_of page_of list_of
+pub layouts_read : (g : Geometry) (image : List Sector) → AreGroupsSound g image → (layouts : Layouts) × AreRead g image layouts
+unfolding layout_of page_of bucket_list
 layouts_read g image sound =
     let f = fill {X = Layout} g.groups (HasLayout g image) (λ group lt. one_layout g image group sound lt) in
     let none : Layout = record { page = 2; buckets = [] } in
@@ -78,7 +78,7 @@ length_groups : (g : Geometry) (image : List Sector) → length (rows_of g image
 unfolding rows_of
 length_groups g image = length-map-range_with_len (group_read g image) 0 g.groups
 
-pub group_of_rows : (g : Geometry) (image : List Sector) (group : ℕ) → group < g.groups → group_of (rows_of g image) group ≡ group_read g image group
+pub group_of_rows : (g : Geometry) (image : List Sector) (group : ℕ) → group < g.groups → group_at (rows_of g image) group ≡ group_read g image group
 unfolding rows_of
 group_of_rows g image group lt = get_or-map-range_with_len (group_read g image) 0 g.groups group group [] lt (omega arith)
 
@@ -87,7 +87,7 @@ unfolding rows_of
 blocks_of_rows g image = refl
 
 -- an inode of a sound group
-number_range : (l : Lower) (g : Geometry) (image : List Sector) (group agino : ℕ) (x : Inode) → IsSound g image → group < g.groups → inode_in (group_read g image group) agino ≡ Some x
+number_range : (l : Lower) (g : Geometry) (image : List Sector) (group agino : ℕ) (x : Inode) → AreGroupsSound g image → group < g.groups → inode_in (group_read g image group) agino ≡ Some x
     → (192 ≤ agino) × (agino < g.blocks * 8)
 number_range l g image group agino x sound lt e =
     let is : IsGroup g.blocks (group_read g image group) = group_right l g image group (good_group g image group sound lt) (sound tree group lt).0 in
@@ -97,11 +97,11 @@ times_are : (t : Bool) (n : ℕ) → (t ≡ true → n ≡ 1) → (t ≡ false �
 times_are true n yes_one no_one = yes_one refl
 times_are false n yes_one no_one = no_one refl
 
-bucket_right : (l : Lower) (g : Geometry) (image : List Sector) (layouts : Layouts) (group bucket agino : ℕ) → IsGeometry g → IsSound g image → AreRead g image layouts → group < g.groups → bucket < 64
-    → times agino (list_of layouts group bucket) ≡ cond (eqb (agino % 64) bucket && is_unlinked (inode_in (group_read g image group) agino)) 1 0
+bucket_right : (l : Lower) (g : Geometry) (image : List Sector) (layouts : Layouts) (group bucket agino : ℕ) → IsGeometry g → AreGroupsSound g image → AreRead g image layouts → group < g.groups → bucket < 64
+    → times agino (bucket_list layouts group bucket) ≡ cond (eqb (agino % 64) bucket && is_unlinked (inode_in (group_read g image group) agino)) 1 0
 bucket_right l g image layouts group bucket agino is sound are lt low =
     let chunks = group_read g image group in
-    let members = list_of layouts group bucket in
+    let members = bucket_list layouts group bucket in
     let list = are.list group bucket lt low in
     let most = is.blocks.1 in
     let once = list_once g image group bucket members list agino in
@@ -113,8 +113,8 @@ bucket_right l g image layouts group bucket agino is sound are lt low =
     let range = number_range l g image group agino u.inode sound lt u.found in
     let met = (sound lists group lt agino u.row (row_found g image group agino u.inode u.row u.found u.live)).unlinked u.no_links in
     let listed =
-    subst (λ (b : ℕ). 1 ≤ times agino (list_of layouts group b)) same
-    (met_listed g image group agino (list_of layouts group (agino % 64)) (λ end. omega (arith, end, range.1, most)) (are.list group (agino % 64) lt (omega arith)) met) in
+    subst (λ (b : ℕ). 1 ≤ times agino (bucket_list layouts group b)) same
+    (met_listed g image group agino (bucket_list layouts group (agino % 64)) (λ end. omega (arith, end, range.1, most)) (are.list group (agino % 64) lt (omega arith)) met) in
     omega (arith, listed, once))
     (λ e. elim (cases_lt 0 (times agino members)) [
       | inl some ↦
@@ -123,7 +123,7 @@ bucket_right l g image layouts group bucket agino is sound are lt low =
       | inr none ↦ omega arith
     ])
 
-pub are_layouts : (l : Lower) (g : Geometry) (image : List Sector) (layouts : Layouts) → IsGeometry g → IsSound g image → AreRead g image layouts → AreLayouts (rows_of g image) layouts
+pub are_layouts : (l : Lower) (g : Geometry) (image : List Sector) (layouts : Layouts) → IsGeometry g → AreGroupsSound g image → AreRead g image layouts → AreLayouts (rows_of g image) layouts
 are_layouts l g image layouts is sound are = record {
   pages = λ group low.
       let lt : group < g.groups = omega (arith, low, length_groups g image) in
@@ -135,7 +135,7 @@ are_layouts l g image layouts is sound are = record {
       ∙ ap (λ (chunks : Group). cond (eqb (agino % 64) bucket && is_unlinked (inode_in chunks agino)) 1 0) (sym (group_of_rows g image group lt));
 }
 
-pub can_encode : (l : Lower) (g : Geometry) (image : List Sector) (layouts : Layouts) → IsGeometry g → IsSound g image → AreRead g image layouts → g.groups * group_sectors g ≤ length image
+pub can_encode : (l : Lower) (g : Geometry) (image : List Sector) (layouts : Layouts) → IsGeometry g → AreGroupsSound g image → AreRead g image layouts → g.groups * group_sectors g ≤ length image
     → CanEncode g (rows_of g image) layouts image
 can_encode l g image layouts is sound are size = record {
   shape = is;
@@ -164,13 +164,13 @@ same_agi a b group size count root level free heads uuid =
     ∙ ap (λ (x : List ℕ). agi_made b.group b.blocks b.count b.root b.level b.free b.heads x) uuid
 
 head_pointer : (g : Geometry) (image : List Sector) (layouts : Layouts) (group bucket : ℕ) → AreRead g image layouts → group < g.groups → bucket < 64
-    → get_or (header_of g image group).heads bucket 0 ≡ head_of (list_of layouts group bucket)
+    → get_or (header_of g image group).heads bucket 0 ≡ head_of (bucket_list layouts group bucket)
 unfolding pointer
 head_pointer g image layouts group bucket are lt low =
-    let members = list_of layouts group bucket in
+    let members = bucket_list layouts group bucket in
     pointer_at g image group bucket members (are.list group bucket lt low) 0 (omega arith) ∙ sym (head_at members)
 
-header_again : (l : Lower) (g : Geometry) (image : List Sector) (layouts : Layouts) (group : ℕ) → IsSound g image → AreRead g image layouts → group < g.groups
+header_again : (l : Lower) (g : Geometry) (image : List Sector) (layouts : Layouts) (group : ℕ) → AreGroupsSound g image → AreRead g image layouts → group < g.groups
     → header_of g image group ≡ header_for g group (group_read g image group) layouts
 unfolding header_for
 header_again l g image layouts group sound are lt =
@@ -181,7 +181,7 @@ header_again l g image layouts group sound are lt =
     let leaf = (sound tree group lt).0.leaf in
     let level = right.encoded.allowed.level in
     let heads = right.encoded.fits.heads in
-    let f : ℕ → ℕ = λ bucket. head_of (list_of layouts group bucket) in
+    let f : ℕ → ℕ = λ bucket. head_of (bucket_list layouts group bucket) in
     same_agi agi (header_for g group chunks layouts) right.own_group right.blocks
     (counts.count ∙ ap (λ (n : ℕ). 64 * n) (sym (length_group g image group)))
     (sym (are.page group lt))
@@ -220,7 +220,7 @@ page_sector_read : (g : Geometry) (image : List Sector) (layouts : Layouts) (gro
 unfolding page_sector page_place
 page_sector_read g image layouts group are lt = ap (λ (root : ℕ). sector_in g group (8 * root)) (sym (are.page group lt))
 
-page_again : (l : Lower) (g : Geometry) (image : List Sector) (layouts : Layouts) (group k : ℕ) → IsSound g image → AreRead g image layouts → group < g.groups
+page_again : (l : Lower) (g : Geometry) (image : List Sector) (layouts : Layouts) (group k : ℕ) → AreGroupsSound g image → AreRead g image layouts → group < g.groups
     → ((i : ℕ) → i < 8 → length (bytes_at image (page_sector g image group + i)) ≡ 512) → k < 8
     → part k (page_bytes g layouts group (group_read g image group)) ≡ bytes_at image (sector_in g group (page_place layouts group + k))
 unfolding page_bytes
@@ -251,16 +251,16 @@ same_core a b live links size count extents generation next =
     ∙ ap (λ (x : ℕ). core_made b.live b.links b.size b.blocks b.extents x a.next) generation
     ∙ ap (λ (x : ℕ). core_made b.live b.links b.size b.blocks b.extents b.generation x) next
 
-runs_again : (l : Lower) (g : Geometry) (image : List Sector) (group agino : ℕ) → IsSound g image → group < g.groups → (row : Row) → row_at g image group agino ≡ Some row
+runs_again : (l : Lower) (g : Geometry) (image : List Sector) (group agino : ℕ) → AreGroupsSound g image → group < g.groups → (row : Row) → row_at g image group agino ≡ Some row
     → runs (blocks_in g image group agino) ≡ runs_in (core_of g image group agino).extents (inode_bytes g image group agino)
 unfolding blocks_in
 runs_again l g image group agino sound lt row e =
     l.forks.runs (runs_in (core_of g image group agino).extents (inode_bytes g image group agino)) (sound fork group lt agino row e).runs.runs
 
 next_again : (g : Geometry) (image : List Sector) (t : Table) (layouts : Layouts) (group agino : ℕ) (row : Row) → AreRead g image layouts → group < g.groups → agino ≢ NO_INODE
-    → IsListed g image group agino row → (row.links ≢ 0 → times agino (list_of layouts group (agino % 64)) ≡ 0) → (core_of g image group agino).next ≡ next_in (list_of layouts group (agino % 64)) agino
+    → IsListed g image group agino row → (row.links ≢ 0 → times agino (bucket_list layouts group (agino % 64)) ≡ 0) → (core_of g image group agino).next ≡ next_in (bucket_list layouts group (agino % 64)) agino
 next_again g image t layouts group agino row are lt some listed none =
-    let members = list_of layouts group (agino % 64) in
+    let members = bucket_list layouts group (agino % 64) in
     let list = are.list group (agino % 64) lt (omega arith) in
     elim (cases_eq row.links 0) [
       | inl nil ↦ next_listed g image group (agino % 64) members agino list (met_listed g image group agino members some list (listed.unlinked nil))
@@ -269,16 +269,16 @@ next_again g image t layouts group agino row are lt some listed none =
 
 -- what an inode of a group is encoded as
 record SameInode (g : Geometry) (image : List Sector) (layouts : Layouts) (group agino : ℕ) (x : Inode) : Type 0 where
-  core_is : core_of g image group agino ≡ core_for x.generation x.row (next_in (list_of layouts group (agino % 64)) agino)
+  core_is : core_of g image group agino ≡ core_for x.generation x.row (next_in (bucket_list layouts group (agino % 64)) agino)
   fork_is : fork_of (inode_bytes g image group agino) ≡ fork_for group x.row
 
-same_inode : (l : Lower) (g : Geometry) (image : List Sector) (layouts : Layouts) (group agino : ℕ) (x : Inode) → IsGeometry g → IsSound g image → AreRead g image layouts → group < g.groups
+same_inode : (l : Lower) (g : Geometry) (image : List Sector) (layouts : Layouts) (group agino : ℕ) (x : Inode) → IsGeometry g → AreGroupsSound g image → AreRead g image layouts → group < g.groups
     → inode_in (group_read g image group) agino ≡ Some x → SameInode g image layouts group agino x
 unfolding core_for fork_for
 same_inode l g image layouts group agino x is sound are lt e =
     let r = found g image group agino x e in
     let c = sound core group lt agino x (inode_found g image group agino x e) in
-    let next : ℕ = next_in (list_of layouts group (agino % 64)) agino in
+    let next : ℕ = next_in (bucket_list layouts group (agino % 64)) agino in
     let held = core_of g image group agino in
     let range = number_range l g image group agino x sound lt e in
     let most = is.blocks.1 in
@@ -298,7 +298,7 @@ same_inode l g image layouts group agino x is sound are lt e =
           let allowed = c.encoded.allowed.live used in
           let f = sound fork group lt agino row at in
           let again = runs_again l g image group agino sound lt row at in
-          let not_listed : row.links ≢ 0 → times agino (list_of layouts group (agino % 64)) ≡ 0 =
+          let not_listed : row.links ≢ 0 → times agino (bucket_list layouts group (agino % 64)) ≡ 0 =
           λ links. bucket_right l g image layouts group (agino % 64) agino is sound are lt (omega arith)
           ∙ off (eqb (agino % 64) (agino % 64)) (is_unlinked (inode_in (group_read g image group) agino)) (is_linked (group_read g image group) agino x row e live links) in
           record {
@@ -315,7 +315,7 @@ same_inode l g image layouts group agino x is sound are lt e =
     off true false h = refl
     off false b h = refl
 
-inode_again : (l : Lower) (g : Geometry) (image : List Sector) (layouts : Layouts) (group agino : ℕ) (x : Inode) → IsGeometry g → IsSound g image → AreRead g image layouts → group < g.groups
+inode_again : (l : Lower) (g : Geometry) (image : List Sector) (layouts : Layouts) (group agino : ℕ) (x : Inode) → IsGeometry g → AreGroupsSound g image → AreRead g image layouts → group < g.groups
     → inode_in (group_read g image group) agino ≡ Some x → inode_sector g layouts group agino x ≡ bytes_at image (sector_in g group agino)
 unfolding inode_sector
 inode_again l g image layouts group agino x is sound are lt e =
@@ -349,7 +349,7 @@ inside : (g : Geometry) (image : List Sector) (group place : ℕ) → g.groups *
 unfolding sector_in
 inside g image group place size lt low = let within = in_image g.groups (group_sectors g) group place lt low in omega arith
 
-place_again : (l : Lower) (g : Geometry) (image : List Sector) (layouts : Layouts) (group place : ℕ) → IsGeometry g → IsSound g image → AreRead g image layouts
+place_again : (l : Lower) (g : Geometry) (image : List Sector) (layouts : Layouts) (group place : ℕ) → IsGeometry g → AreGroupsSound g image → AreRead g image layouts
     → g.groups * group_sectors g ≤ length image → AreSectors image → group < g.groups → place < group_sectors g
     → Keeps (bytes_at image (sector_in g group place)) (metadata g layouts group (group_read g image group) place)
 place_again l g image layouts group place is sound are size long lt low =
@@ -384,7 +384,7 @@ place_again l g image layouts group place is sound are size long lt low =
     ∙ ap (λ (n : ℕ). bytes_at image (sector_in g group n)) back)
     (inode_keeps (inode_in chunks place) (inode_sector g layouts group place) old (λ x e. inode_again l g image layouts group place x is sound are lt e)))
 
-sector_again : (l : Lower) (g : Geometry) (image : List Sector) (layouts : Layouts) (s : ℕ) → IsGeometry g → IsSound g image → AreRead g image layouts → g.groups * group_sectors g ≤ length image
+sector_again : (l : Lower) (g : Geometry) (image : List Sector) (layouts : Layouts) (s : ℕ) → IsGeometry g → AreGroupsSound g image → AreRead g image layouts → g.groups * group_sectors g ≤ length image
     → AreSectors image → s < length image → bytes_at (encoded g (rows_of g image) layouts image) s ≡ bytes_at image s
 unfolding sector_in
 sector_again l g image layouts s is sound are size long lt =
@@ -410,7 +410,7 @@ same_bytes : (a b : List Sector) (s : ℕ) → bytes_at a s ≡ bytes_at b s →
 unfolding bytes_at
 same_bytes a b s e = ap sector_of e
 
-pub image_again : (l : Lower) (g : Geometry) (image : List Sector) (layouts : Layouts) → IsGeometry g → IsSound g image → AreRead g image layouts → g.groups * group_sectors g ≤ length image
+pub image_again : (l : Lower) (g : Geometry) (image : List Sector) (layouts : Layouts) → IsGeometry g → AreGroupsSound g image → AreRead g image layouts → g.groups * group_sectors g ≤ length image
     → AreSectors image → encoded g (rows_of g image) layouts image ≡ image
 image_again l g image layouts is sound are size long =
     let new = encoded g (rows_of g image) layouts image in
@@ -422,7 +422,7 @@ image_again l g image layouts is sound are size long =
     ∙ same_bytes new image s (sector_again l g image layouts s is sound are size long within)
     ∙ get_or_default image s zero_sector d within)
 
-pub encoded_again : (l : Lower) (g : Geometry) (image : List Sector) → IsGeometry g → IsSound g image → g.groups * group_sectors g ≤ length image → AreSectors image
+pub encoded_again : (l : Lower) (g : Geometry) (image : List Sector) → IsGeometry g → AreGroupsSound g image → g.groups * group_sectors g ≤ length image → AreSectors image
     → (layouts : Layouts) × CanEncode g (rows_of g image) layouts image × (encoded g (rows_of g image) layouts image ≡ image)
 encoded_again l g image is sound size long =
     let read = layouts_read g image sound in

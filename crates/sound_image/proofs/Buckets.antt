@@ -12,12 +12,12 @@ use Rattle.life_limits.specs.declared.TheConstants.{NO_INODE}
 use Rattle.life_table.specs.declared.types.Row.{Row}
 use Rattle.life_table.specs.declared.table.Inode.{Inode}
 use Rattle.life_table.specs.declared.table.Table.{Table}
-use Rattle.life_table.specs.Table.{Group, group_of, inode_in}
+use Rattle.life_table.specs.Table.{Group, group_at, inode_in}
 use Rattle.life_table.specs.History.{closed_inode, closed_row}
 use Rattle.life_table.specs.Space.{times}
 use Rattle.sound_image.specs.Reading.{core_of, row_at}
 use Rattle.sound_image.specs.Rules.{pointer, IsMember, IsNewMember, Ends, IsMet, IsListed}
-use Rattle.sound_image.specs.Encoding.{Layouts, list_of, head_of, next_in, header_for, is_unlinked, encoded}
+use Rattle.sound_image.specs.Encoding.{Layouts, bucket_list, head_of, next_in, header_for, is_unlinked, encoded}
 use Rattle.sound_image.proofs.Groups.{times-cons, times-nil, times_here, times_later}
 use Rattle.sound_image.proofs.Headers.{header_is}
 use Rattle.sound_image.proofs.Inodes.{times_get, next_is}
@@ -90,27 +90,27 @@ place_of (m ∷ members) a some =
 -- ---- the pointers
 
 heads_at : (g : Geometry) (group : ℕ) (chunks : Group) (layouts : Layouts) (bucket : ℕ) → bucket < 64
-    → get_or (header_for g group chunks layouts).heads bucket 0 ≡ head_of (list_of layouts group bucket)
+    → get_or (header_for g group chunks layouts).heads bucket 0 ≡ head_of (bucket_list layouts group bucket)
 unfolding header_for
-heads_at g group chunks layouts bucket lt = get_or-map-range_with_len (λ bucket. head_of (list_of layouts group bucket)) 0 64 bucket bucket 0 lt (omega arith)
+heads_at g group chunks layouts bucket lt = get_or-map-range_with_len (λ bucket. head_of (bucket_list layouts group bucket)) 0 64 bucket bucket 0 lt (omega arith)
 
-once_of : (g : Geometry) (t : Table) (layouts : Layouts) (image : List Sector) (group bucket : ℕ) → IsReady g t layouts image group → bucket < 64 → IsOnce (list_of layouts group bucket)
+once_of : (g : Geometry) (t : Table) (layouts : Layouts) (image : List Sector) (group bucket : ℕ) → IsReady g t layouts image group → bucket < 64 → IsOnce (bucket_list layouts group bucket)
 once_of g t layouts image group bucket r low m = member_once g t layouts image group bucket m r low
 
 pointer_is : (l : Lower) (g : Geometry) (t : Table) (layouts : Layouts) (image : List Sector) (group bucket : ℕ) → IsReady g t layouts image group → bucket < 64
-    → (n : ℕ) → n ≤ length (list_of layouts group bucket) → pointer g (encoded g t layouts image) group bucket n ≡ get_or (list_of layouts group bucket) n NO_INODE
+    → (n : ℕ) → n ≤ length (bucket_list layouts group bucket) → pointer g (encoded g t layouts image) group bucket n ≡ get_or (bucket_list layouts group bucket) n NO_INODE
 unfolding pointer
 pointer_is l g t layouts image group bucket r low zero le =
-    ap (λ (agi : Agi). get_or agi.heads bucket 0) (header_is l g t layouts image group r) ∙ heads_at g group (group_of t group) layouts bucket low ∙ head_at (list_of layouts group bucket)
+    ap (λ (agi : Agi). get_or agi.heads bucket 0) (header_is l g t layouts image group r) ∙ heads_at g group (group_at t group) layouts bucket low ∙ head_at (bucket_list layouts group bucket)
 pointer_is l g t layouts image group bucket r low (suc n) le =
     let new = encoded g t layouts image in
-    let members = list_of layouts group bucket in
+    let members = bucket_list layouts group bucket in
     let a : ℕ = get_or members n NO_INODE in
     let m = member g t layouts image group bucket a r low (times_get members n NO_INODE (omega arith)) in
     let u = m.unlinked in
     ap (λ (p : ℕ). (core_of g new group p).next) (pointer_is l g t layouts image group bucket r low n (omega arith))
     ∙ next_is l g t layouts image group a u.inode u.row r u.found u.live
-    ∙ ap (λ (b : ℕ). next_in (list_of layouts group b) a) m.own
+    ∙ ap (λ (b : ℕ). next_in (bucket_list layouts group b) a) m.own
     ∙ next_at members n (once_of g t layouts image group bucket r low) (omega arith)
 
 -- ---- members
@@ -122,14 +122,14 @@ row_made o x row found live nil =
     (subst (λ (o : Option Row). IsSomeAnd (closed_row o) (λ (row : Row). row.links ≡ 0)) (sym live) nil)
 
 no_links : (l : Lower) (g : Geometry) (t : Table) (layouts : Layouts) (image : List Sector) (group agino : ℕ) (x : Inode) (row : Row) → IsReady g t layouts image group
-    → inode_in (group_of t group) agino ≡ Some x → x.row ≡ Some row → row.links ≡ 0 → IsSomeAnd (row_at g (encoded g t layouts image) group agino) (λ (row : Row). row.links ≡ 0)
+    → inode_in (group_at t group) agino ≡ Some x → x.row ≡ Some row → row.links ≡ 0 → IsSomeAnd (row_at g (encoded g t layouts image) group agino) (λ (row : Row). row.links ≡ 0)
 unfolding row_at
 no_links l g t layouts image group agino x row r found live nil =
     subst (λ (o : Option Inode). IsSomeAnd (option_and_then (λ (inode : Inode). inode.row) o) (λ (row : Row). row.links ≡ 0)) (sym (inode_at_is l g t layouts image group agino r))
-    (row_made (inode_in (group_of t group) agino) x row found live nil)
+    (row_made (inode_in (group_at t group) agino) x row found live nil)
 
 is_member : (l : Lower) (g : Geometry) (t : Table) (layouts : Layouts) (image : List Sector) (group bucket a : ℕ) → IsReady g t layouts image group → bucket < 64
-    → 1 ≤ times a (list_of layouts group bucket) → IsMember g (encoded g t layouts image) group bucket a
+    → 1 ≤ times a (bucket_list layouts group bucket) → IsMember g (encoded g t layouts image) group bucket a
 is_member l g t layouts image group bucket a r low some =
     let m = member g t layouts image group bucket a r low some in
     let u = m.unlinked in
@@ -142,10 +142,10 @@ is_member l g t layouts image group bucket a r low some =
     }
 
 new_member : (l : Lower) (g : Geometry) (t : Table) (layouts : Layouts) (image : List Sector) (group bucket : ℕ) → IsReady g t layouts image group → bucket < 64
-    → (k : ℕ) → k < length (list_of layouts group bucket) → IsNewMember g (encoded g t layouts image) group bucket k
+    → (k : ℕ) → k < length (bucket_list layouts group bucket) → IsNewMember g (encoded g t layouts image) group bucket k
 new_member l g t layouts image group bucket r low k lt =
     let new = encoded g t layouts image in
-    let members = list_of layouts group bucket in
+    let members = bucket_list layouts group bucket in
     let at : (n : ℕ) → n < length members → pointer g new group bucket n ≡ get_or members n NO_INODE = λ n within. pointer_is l g t layouts image group bucket r low n (omega arith) in
     record {
       member = subst (IsMember g new group bucket) (sym (at k lt)) (is_member l g t layouts image group bucket (get_or members k NO_INODE) r low (times_get members k NO_INODE lt));
@@ -155,7 +155,7 @@ new_member l g t layouts image group bucket r low k lt =
 pub pointers_right : (l : Lower) (g : Geometry) (t : Table) (layouts : Layouts) (image : List Sector) (group bucket : ℕ) → IsReady g t layouts image group → bucket < 64
     → Ends g (encoded g t layouts image) group bucket
 pointers_right l g t layouts image group bucket r low =
-    let members = list_of layouts group bucket in
+    let members = bucket_list layouts group bucket in
     record {
       count = length members;
       members = new_member l g t layouts image group bucket r low;
@@ -165,11 +165,11 @@ pointers_right l g t layouts image group bucket r low =
 -- ---- the lists are complete
 
 met : (l : Lower) (g : Geometry) (t : Table) (layouts : Layouts) (image : List Sector) (group agino : ℕ) → IsReady g t layouts image group
-    → is_unlinked (inode_in (group_of t group) agino) ≡ true → IsMet g (encoded g t layouts image) group agino
+    → is_unlinked (inode_in (group_at t group) agino) ≡ true → IsMet g (encoded g t layouts image) group agino
 met l g t layouts image group agino r e =
     let bucket : ℕ = agino % 64 in
     let low : bucket < 64 = omega arith in
-    let p = place_of (list_of layouts group bucket) agino (omega (arith, unlinked_listed g t layouts image group agino r e)) in
+    let p = place_of (bucket_list layouts group bucket) agino (omega (arith, unlinked_listed g t layouts image group agino r e)) in
     let within = p.within in
     record {
       place = p.index;
@@ -182,9 +182,9 @@ pub lists_right : (l : Lower) (g : Geometry) (t : Table) (layouts : Layouts) (im
 lists_right l g t layouts image group agino row r e =
     let x = is_row_read l g t layouts image group agino row r e in
     record {
-      unlinked = λ nil. met l g t layouts image group agino r (is_unlinked_again (group_of t group) agino x.inode x.held x.found x.live (sym x.links ∙ nil));
+      unlinked = λ nil. met l g t layouts image group agino r (is_unlinked_again (group_at t group) agino x.inode x.held x.found x.live (sym x.links ∙ nil));
       linked = λ some.
           next_is l g t layouts image group agino x.inode x.held r x.found x.live
-          ∙ next_none (list_of layouts group (agino % 64)) agino
-          (linked_not_listed g t layouts image group agino r (is_linked (group_of t group) agino x.inode x.held x.found x.live (λ nil. some (x.links ∙ nil))));
+          ∙ next_none (bucket_list layouts group (agino % 64)) agino
+          (linked_not_listed g t layouts image group agino r (is_linked (group_at t group) agino x.inode x.held x.found x.live (λ nil. some (x.links ∙ nil))));
     }

@@ -4,7 +4,7 @@ use Rattle.std.proofs.lemmas.Bool.{cases_order}
 use Rattle.life_bytes.specs.declared.sector.Sector.{Sector}
 use Rattle.geometry.specs.declared.shape.Geometry.{Geometry}
 use Rattle.sound_image.specs.Rules.{pointer, Ends, IsWrongPointer}
-use Rattle.sound_image.specs.Damage.{Rule, header, tree, core, fork, blocks, bitmap, pointers, lists, number_of, HoldsIn, BreaksIn, Holds, Breaks, FirstDamage, IsSound}
+use Rattle.sound_image.specs.Damage.{Rule, header, tree, core, fork, blocks, bitmap, pointers, lists, groups_rule_number, HoldsIn, BreaksIn, GroupsHold, GroupsBreak, FirstGroupsDamage, AreGroupsSound}
 
 -- a list that ends has no wrong pointer
 ends_right : (g : Geometry) (image : List Sector) (group bucket n : ℕ) → Ends g image group bucket → IsWrongPointer g image group bucket n → ⊥
@@ -26,10 +26,10 @@ not_both g image bitmap group s h b = b.3 (h b.0 b.1)
 not_both g image pointers group s h b = ends_right g image group b.0 b.1 (h b.0 b.2) b.4
 not_both g image lists group s h b = b.4 (h b.0 b.1 b.3)
 
-pub unbroken : (g : Geometry) (image : List Sector) (rule : Rule) (s : ℕ) → Holds g image rule → Breaks g image rule s → ⊥
+pub unbroken : (g : Geometry) (image : List Sector) (rule : Rule) (s : ℕ) → GroupsHold g image rule → GroupsBreak g image rule s → ⊥
 unbroken g image rule s h b = not_both g image rule b.0 s (h b.0 b.1) b.2
 
-pub same_rule : (a b : Rule) → number_of a ≡ number_of b → a ≡ b
+pub same_rule : (a b : Rule) → groups_rule_number a ≡ groups_rule_number b → a ≡ b
 same_rule header header e = refl
 same_rule tree tree e = refl
 same_rule core core e = refl
@@ -40,18 +40,18 @@ same_rule pointers pointers e = refl
 same_rule lists lists e = refl
 same_rule _ _ e = absurd (omega arith)
 
-least_sector : (g : Geometry) (image : List Sector) (a : Rule) (s t : ℕ) → FirstDamage g image a s → FirstDamage g image a t → s ≡ t
+least_sector : (g : Geometry) (image : List Sector) (a : Rule) (s t : ℕ) → FirstGroupsDamage g image a s → FirstGroupsDamage g image a t → s ≡ t
 least_sector g image a s t x y = let low = x.least t y.broken in let high = y.least s x.broken in omega arith
 
-pub one : (g : Geometry) (image : List Sector) (a b : Rule) (s t : ℕ) → FirstDamage g image a s → FirstDamage g image b t → (a ≡ b) × (s ≡ t)
+pub one : (g : Geometry) (image : List Sector) (a b : Rule) (s t : ℕ) → FirstGroupsDamage g image a s → FirstGroupsDamage g image b t → (a ≡ b) × (s ≡ t)
 one g image a b s t x y =
-    elim (cases_order (number_of a) (number_of b)) [
+    elim (cases_order (groups_rule_number a) (groups_rule_number b)) [
       | inl e ↦
           let same : a ≡ b = same_rule a b e in
-          (same, least_sector g image b s t (subst (λ (r : Rule). FirstDamage g image r s) same x) y)
+          (same, least_sector g image b s t (subst (λ (r : Rule). FirstGroupsDamage g image r s) same x) y)
       | inr (inl lt) ↦ absurd (unbroken g image a s (y.before a lt) x.broken)
       | inr (inr gt) ↦ absurd (unbroken g image b t (x.before b gt) y.broken)
     ]
 
-pub none : (g : Geometry) (image : List Sector) (a : Rule) (s : ℕ) → IsSound g image → FirstDamage g image a s → ⊥
+pub none : (g : Geometry) (image : List Sector) (a : Rule) (s : ℕ) → AreGroupsSound g image → FirstGroupsDamage g image a s → ⊥
 none g image a s sound x = unbroken g image a s (sound a) x.broken

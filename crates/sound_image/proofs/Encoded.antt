@@ -7,16 +7,16 @@ use Rattle.std.proofs.lemmas.List.{length-map, get_or-map, same_lists}
 use Rattle.std.proofs.lemmas.List.FromFn.{length-map-range_with_len, get_or-map-range_with_len}
 use Rattle.std.proofs.lemmas.Nat.Bits.{same_from_bits_below, bit_at-lt}
 use Rattle.life_bytes.specs.declared.sector.Sector.{Sector}
+use Rattle.life_bytes.specs.Bits.{is_set}
 use Rattle.geometry.specs.declared.shape.Geometry.{Geometry}
 use Rattle.inobt_leaf.specs.declared.chunk.ChunkRec.{ChunkRec}
 use Rattle.inobt_leaf.specs.Chunks.{IsLeaf}
-use Rattle.inobt_leaf.specs.Chunks.{IsChunk as IsChunkRecord}
-use Rattle.inobt_leaf.specs.Masks.{is_set}
+use Rattle.inobt_leaf.specs.Chunks.{IsChunkRecord}
 use Rattle.life_table.specs.declared.types.Row.{Row}
 use Rattle.life_table.specs.declared.table.Inode.{Inode}
 use Rattle.life_table.specs.declared.table.Chunk.{Chunk}
 use Rattle.sound_image.specs.Reading.{core_of, blocks_in, inode_read, chunk_read, group_read, records_of}
-use Rattle.sound_image.specs.Encoding.{mask_of, free_count, record_of}
+use Rattle.sound_image.specs.Encoding.{mask_of, free_count, chunk_record}
 use Rattle.sound_image.proofs.Leaves.{unused, mask_ones, mask_small}
 use Rattle.sound_image.proofs.Ready.{Lower}
 use Rattle.sound_image.proofs.Rows.{row_made}
@@ -71,8 +71,8 @@ start_of_read : (g : Geometry) (image : List Sector) (group : ℕ) (r : ChunkRec
 unfolding chunk_read
 start_of_read g image group r = refl
 
-record_again : (l : Lower) (g : Geometry) (image : List Sector) (group : ℕ) (r : ChunkRec) → IsChunkRecord r → record_of (chunk_read g image group r) ≡ r
-unfolding record_of
+record_again : (l : Lower) (g : Geometry) (image : List Sector) (group : ℕ) (r : ChunkRec) → IsChunkRecord r → chunk_record (chunk_read g image group r) ≡ r
+unfolding chunk_record
 record_again l g image group r is =
     let c : Chunk = chunk_read g image group r in
     let mask = mask_read l g image group r is.mask in
@@ -80,14 +80,14 @@ record_again l g image group r is =
     ∙ ap (λ (n : ℕ). record_made r.start n (mask_of c.inodes)) (mask_ones c.inodes ∙ ap count_ones mask ∙ sym is.free)
     ∙ ap (record_made r.start r.free) mask
 
-pub records_again : (l : Lower) (g : Geometry) (image : List Sector) (group : ℕ) → IsLeaf (records_of g image group) → map record_of (group_read g image group) ≡ records_of g image group
+pub records_again : (l : Lower) (g : Geometry) (image : List Sector) (group : ℕ) → IsLeaf (records_of g image group) → map chunk_record (group_read g image group) ≡ records_of g image group
 records_again l g image group leaf =
     let rs = records_of g image group in
     let f : ChunkRec → Chunk = chunk_read g image group in
-    ap (map record_of) (group_is_map g image group)
-    ∙ same_lists (map record_of (map f rs)) rs (length-map (map f rs) record_of ∙ length-map rs f)
+    ap (map chunk_record) (group_is_map g image group)
+    ∙ same_lists (map chunk_record (map f rs)) rs (length-map (map f rs) chunk_record ∙ length-map rs f)
     (λ k d lt.
-    let within : k < length rs = omega (arith, lt, length-map (map f rs) record_of, length-map rs f) in
-    get_or-map record_of (map f rs) k (f d) d (omega (arith, length-map rs f))
-    ∙ ap record_of (get_or-map f rs k d (f d) within)
+    let within : k < length rs = omega (arith, lt, length-map (map f rs) chunk_record, length-map rs f) in
+    get_or-map chunk_record (map f rs) k (f d) d (omega (arith, length-map rs f))
+    ∙ ap chunk_record (get_or-map f rs k d (f d) within)
     ∙ record_again l g image group (get_or rs k d) (leaf.each k d within))

@@ -12,7 +12,7 @@ use Rattle.life_bytes.specs.declared.sector.Sector.{Sector}
 use Rattle.life_bytes.specs.TableLaws.{length-zeros}
 use Rattle.geometry.specs.declared.shape.Geometry.{Geometry}
 use Rattle.inode_core.specs.declared.shape.Core.{Core}
-use Rattle.inode_core.specs.Cores.{Encodes, encoding, fork_of}
+use Rattle.inode_core.specs.Cores.{EncodesCore, core_encoding, fork_of}
 use Rattle.inode_core.specs.Reading.{core_in, CanStand}
 use Rattle.extent_fork.specs.declared.extent.Extent.{Extent}
 use Rattle.extent_fork.specs.Forks.{IsRun, AreRuns, HasFork, fork}
@@ -21,12 +21,12 @@ use Rattle.extent_fork.specs.Runs.{runs, blocks_of}
 use Rattle.life_table.specs.declared.types.Row.{Row}
 use Rattle.life_table.specs.declared.table.Inode.{Inode}
 use Rattle.life_table.specs.declared.table.Table.{Table}
-use Rattle.life_table.specs.Table.{Group, group_of, inode_in}
+use Rattle.life_table.specs.Table.{Group, group_at, inode_in}
 use Rattle.life_table.specs.Space.{times, row_blocks}
 use Rattle.life_table.specs.WellFormed.{IsRow, IsGroup}
 use Rattle.sound_image.specs.Places.{bytes_at, sector_in, number_in}
 use Rattle.sound_image.specs.Reading.{core_of, blocks_in}
-use Rattle.sound_image.specs.Encoding.{Layouts, list_of, head_of, next_in, core_for, fork_for, inode_sector, encoded}
+use Rattle.sound_image.specs.Encoding.{Layouts, bucket_list, head_of, next_in, core_for, fork_for, inode_sector, encoded}
 use Rattle.sound_image.proofs.Groups.{times_here, times_later, in_range, is_inode, row_blocks_used}
 use Rattle.sound_image.proofs.Metadata.{at_inode}
 use Rattle.sound_image.proofs.Ready.{Lower, IsReady, member_range}
@@ -49,10 +49,10 @@ next_small (m ∷ members) agino each =
     first [] each = lit< tt
     first (m ∷ members) each = each m (times_here m members)
 
-next_of : (g : Geometry) (t : Table) (layouts : Layouts) (image : List Sector) (group agino : ℕ) → IsReady g t layouts image group → next_in (list_of layouts group (agino % 64)) agino < 2 ^ 32
+next_of : (g : Geometry) (t : Table) (layouts : Layouts) (image : List Sector) (group agino : ℕ) → IsReady g t layouts image group → next_in (bucket_list layouts group (agino % 64)) agino < 2 ^ 32
 next_of g t layouts image group agino r =
     let most = r.most in
-    next_small (list_of layouts group (agino % 64)) agino
+    next_small (bucket_list layouts group (agino % 64)) agino
     (λ m some. let range = member_range g t layouts image group (agino % 64) m r (omega arith) some in omega arith)
 
 -- ---- blocks of rows
@@ -96,11 +96,11 @@ pub record StoredRow (l : Lower) (row : Row) (generation : ℕ) : Type 0 where
   pub runs : AreRuns (runs row.blocks)
 
 row_stored : (l : Lower) (g : Geometry) (t : Table) (layouts : Layouts) (image : List Sector) (group agino : ℕ) (x : Inode) (row : Row) → IsReady g t layouts image group
-    → inode_in (group_of t group) agino ≡ Some x → x.row ≡ Some row → StoredRow l row x.generation
+    → inode_in (group_at t group) agino ≡ Some x → x.row ≡ Some row → StoredRow l row x.generation
 row_stored l g t layouts image group agino x row r found live =
     record {
-      is = subst (λ (o : Option Row). IfSome o (IsRow x.generation)) live (is_inode (group_of t group) agino x r.is_group.chunks found).row;
-      runs = runs_of_row l g.blocks (group_of t group) agino x row r.most r.is_group found live;
+      is = subst (λ (o : Option Row). IfSome o (IsRow x.generation)) live (is_inode (group_at t group) agino x r.is_group.chunks found).row;
+      runs = runs_of_row l g.blocks (group_at t group) agino x row r.most r.is_group found live;
     }
 
 stands : (l : Lower) (group generation next : ℕ) (uuid : List ℕ) (o : Option Row) → length uuid ≡ 16 → 1 ≤ generation → generation ≤ 4294967295 → next < 2 ^ 32
@@ -132,32 +132,32 @@ stands l group generation next uuid (Some row) wide low high small stored =
     }
 
 abbrev pub next_for : Layouts → ℕ → ℕ → ℕ
-next_for layouts group agino = next_in (list_of layouts group (agino % 64)) agino
+next_for layouts group agino = next_in (bucket_list layouts group (agino % 64)) agino
 
 can_stand : (l : Lower) (g : Geometry) (t : Table) (layouts : Layouts) (image : List Sector) (group agino : ℕ) (x : Inode) → IsReady g t layouts image group
-    → inode_in (group_of t group) agino ≡ Some x → CanStand (core_for x.generation x.row (next_for layouts group agino)) g.uuid (fork_for group x.row)
+    → inode_in (group_at t group) agino ≡ Some x → CanStand (core_for x.generation x.row (next_for layouts group agino)) g.uuid (fork_for group x.row)
 can_stand l g t layouts image group agino x r found =
-    let is = is_inode (group_of t group) agino x r.is_group.chunks found in
+    let is = is_inode (group_at t group) agino x r.is_group.chunks found in
     stands l group x.generation (next_for layouts group agino) g.uuid x.row r.uuid is.first is.last (next_of g t layouts image group agino r)
     (λ row live. row_stored l g t layouts image group agino x row r found live)
 
 pub sector_is : (l : Lower) (g : Geometry) (t : Table) (layouts : Layouts) (image : List Sector) (group agino : ℕ) (x : Inode) → IsReady g t layouts image group
-    → inode_in (group_of t group) agino ≡ Some x
-    → bytes_at (encoded g t layouts image) (sector_in g group agino) ≡ encoding (core_for x.generation x.row (next_for layouts group agino)) (number_in group agino) g.uuid (fork_for group x.row)
+    → inode_in (group_at t group) agino ≡ Some x
+    → bytes_at (encoded g t layouts image) (sector_in g group agino) ≡ core_encoding (core_for x.generation x.row (next_for layouts group agino)) (number_in group agino) g.uuid (fork_for group x.row)
 unfolding inode_sector
 sector_is l g t layouts image group agino x r found =
-    let range = in_range g.blocks (group_of t group) agino x r.data_of found in
+    let range = in_range g.blocks (group_at t group) agino x r.data_of found in
     at_metadata g t layouts image group agino (inode_sector g layouts group agino x) r.size r.below (omega arith)
-    (at_inode g layouts group (group_of t group) agino r.page_low (omega (arith, r.page_high)) ∙ ap (option_map (inode_sector g layouts group agino)) found)
+    (at_inode g layouts group (group_at t group) agino r.page_low (omega (arith, r.page_high)) ∙ ap (option_map (inode_sector g layouts group agino)) found)
 
 -- what the sector of an inode encodes
 pub record Stored (g : Geometry) (new : List Sector) (layouts : Layouts) (group agino : ℕ) (x : Inode) : Type 0 where
   pub core_is : core_of g new group agino ≡ core_for x.generation x.row (next_for layouts group agino)
-  pub encoded : Encodes (bytes_at new (sector_in g group agino)) (number_in group agino) g.uuid (core_for x.generation x.row (next_for layouts group agino))
+  pub encoded : EncodesCore (bytes_at new (sector_in g group agino)) (number_in group agino) g.uuid (core_for x.generation x.row (next_for layouts group agino))
   pub fork_is : fork_of (bytes_at new (sector_in g group agino)) ≡ fork_for group x.row
 
 pub stored : (l : Lower) (g : Geometry) (t : Table) (layouts : Layouts) (image : List Sector) (group agino : ℕ) (x : Inode) → IsReady g t layouts image group
-    → inode_in (group_of t group) agino ≡ Some x → Stored g (encoded g t layouts image) layouts group agino x
+    → inode_in (group_at t group) agino ≡ Some x → Stored g (encoded g t layouts image) layouts group agino x
 unfolding core_of
 stored l g t layouts image group agino x r found =
     let new = encoded g t layouts image in
@@ -166,9 +166,9 @@ stored l g t layouts image group agino x r found =
     let at = sector_is l g t layouts image group agino x r found in
     let encodes = l.cores.encoded core (number_in group agino) g.uuid (fork_for group x.row) can in
     record {
-      core_is = ap core_in at ∙ l.cores.read (encoding core (number_in group agino) g.uuid (fork_for group x.row)) g.uuid (number_in group agino) core
+      core_is = ap core_in at ∙ l.cores.read (core_encoding core (number_in group agino) g.uuid (fork_for group x.row)) g.uuid (number_in group agino) core
           (l.cores.long core (number_in group agino) g.uuid (fork_for group x.row) can) r.uuid encodes;
-      encoded = subst (λ (bytes : List ℕ). Encodes bytes (number_in group agino) g.uuid core) (sym at) encodes;
+      encoded = subst (λ (bytes : List ℕ). EncodesCore bytes (number_in group agino) g.uuid core) (sym at) encodes;
       fork_is = ap fork_of at ∙ l.cores.same_fork core (number_in group agino) g.uuid (fork_for group x.row) can;
     }
 
@@ -192,7 +192,7 @@ unfolding fork_for
 fork_says group o row live = ap (fork_for group) live
 
 pub stored_runs : (l : Lower) (g : Geometry) (t : Table) (layouts : Layouts) (image : List Sector) (group agino : ℕ) (x : Inode) (row : Row) → IsReady g t layouts image group
-    → inode_in (group_of t group) agino ≡ Some x → x.row ≡ Some row → StoredRuns g (encoded g t layouts image) group agino row
+    → inode_in (group_at t group) agino ≡ Some x → x.row ≡ Some row → StoredRuns g (encoded g t layouts image) group agino row
 stored_runs l g t layouts image group agino x row r found live =
     let new = encoded g t layouts image in
     let s = stored l g t layouts image group agino x r found in
@@ -210,13 +210,13 @@ stored_runs l g t layouts image group agino x row r found live =
     }
 
 pub next_is : (l : Lower) (g : Geometry) (t : Table) (layouts : Layouts) (image : List Sector) (group agino : ℕ) (x : Inode) (row : Row) → IsReady g t layouts image group
-    → inode_in (group_of t group) agino ≡ Some x → x.row ≡ Some row → (core_of g (encoded g t layouts image) group agino).next ≡ next_for layouts group agino
+    → inode_in (group_at t group) agino ≡ Some x → x.row ≡ Some row → (core_of g (encoded g t layouts image) group agino).next ≡ next_for layouts group agino
 next_is l g t layouts image group agino x row r found live =
     let new = encoded g t layouts image in
     (core_says (core_of g new group agino) x.generation (next_for layouts group agino) x.row row (stored l g t layouts image group agino x r found).core_is live).3
 
 pub blocks_are : (l : Lower) (g : Geometry) (t : Table) (layouts : Layouts) (image : List Sector) (group agino : ℕ) (x : Inode) (row : Row) → IsReady g t layouts image group
-    → inode_in (group_of t group) agino ≡ Some x → x.row ≡ Some row → blocks_in g (encoded g t layouts image) group agino ≡ row.blocks
+    → inode_in (group_at t group) agino ≡ Some x → x.row ≡ Some row → blocks_in g (encoded g t layouts image) group agino ≡ row.blocks
 unfolding blocks_in
 blocks_are l g t layouts image group agino x row r found live =
     let new = encoded g t layouts image in

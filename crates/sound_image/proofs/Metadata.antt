@@ -4,7 +4,7 @@ use Rattle.std.specs.Prelude.{◌&&◌}
 use Rattle.std.specs.Option.{option_map}
 use Rattle.std.proofs.lemmas.Bool.{and_left, lt-leb, lt-ltb, le-ltb, ne_eqb, cond-true, cond-false, and_right, and_from, le-leb}
 use Rattle.geometry.specs.declared.shape.Geometry.{Geometry}
-use Rattle.ag_header.specs.Headers.{encoding as header_encoding}
+use Rattle.ag_header.specs.Headers.{header_encoding}
 use Rattle.free_map.specs.Bitmap.{bitmap}
 use Rattle.life_table.specs.Table.{Group, inode_in}
 use Rattle.sound_image.specs.Places.{part}

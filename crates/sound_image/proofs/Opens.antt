@@ -10,19 +10,19 @@ use Rattle.life_bytes.specs.declared.sector.Sector.{Sector}
 use Rattle.geometry.specs.declared.shape.Geometry.{Geometry}
 use Rattle.geometry.specs.Places.{group_sectors}
 use Rattle.ag_header.specs.declared.agi.Agi.{Agi}
-use Rattle.ag_header.specs.Headers.{encoding as header_encoding}
+use Rattle.ag_header.specs.Headers.{header_encoding}
 use Rattle.inobt_leaf.specs.declared.chunk.ChunkRec.{ChunkRec}
-use Rattle.inobt_leaf.specs.Pages.{encoding as page_encoding}
+use Rattle.inobt_leaf.specs.Pages.{page_encoding}
 use Rattle.free_map.specs.Bitmap.{number_of_bits, bitmap}
 use Rattle.life_table.specs.declared.types.Row.{Row}
 use Rattle.life_table.specs.declared.table.Inode.{Inode}
 use Rattle.life_table.specs.declared.table.Chunk.{Chunk}
 use Rattle.life_table.specs.declared.table.Table.{Table}
-use Rattle.life_table.specs.Table.{Group, group_of, inode_in}
+use Rattle.life_table.specs.Table.{Group, group_at, inode_in}
 use Rattle.life_table.specs.History.{closed, closed_inode, closed_row}
 use Rattle.sound_image.specs.Places.{bytes_at, part, sector_in}
 use Rattle.sound_image.specs.Rules.{free_set}
-use Rattle.sound_image.specs.Encoding.{Layouts, mask_of, free_count, record_of, header_for, core_for, fork_for, inode_sector, page_place, page_bytes, metadata, encoded, encoded_bytes}
+use Rattle.sound_image.specs.Encoding.{Layouts, mask_of, free_count, chunk_record, header_for, core_for, fork_for, inode_sector, page_place, page_bytes, metadata, encoded, encoded_bytes}
 use Rattle.sound_image.proofs.Leaves.{unused, mask_ones}
 use Rattle.sound_image.proofs.Metadata.{is_bitmap, is_page, chosen, by_tests}
 use Rattle.sound_image.proofs.Right.{free_set_closed}
@@ -47,14 +47,14 @@ count_closed inodes = mask_ones (map closed_inode inodes) ∙ ap count_ones (mas
 abbrev record_made : ℕ → ℕ → ℕ → ChunkRec
 record_made start free mask = record { start = start; free = free; mask = mask }
 
-record_closed : (c : Chunk) → record_of (closed_chunk c) ≡ record_of c
-unfolding record_of
+record_closed : (c : Chunk) → chunk_record (closed_chunk c) ≡ chunk_record c
+unfolding chunk_record
 record_closed c =
     ap (λ (n : ℕ). record_made c.start n (mask_of (map closed_inode c.inodes))) (count_closed c.inodes) ∙ ap (record_made c.start (free_count c.inodes)) (mask_closed c.inodes)
 
-records_closed : (chunks : Group) → map record_of (map closed_chunk chunks) ≡ map record_of chunks
+records_closed : (chunks : Group) → map chunk_record (map closed_chunk chunks) ≡ map chunk_record chunks
 records_closed [] = refl
-records_closed (c ∷ cs) = ap (λ (r : ChunkRec). r ∷ map record_of (map closed_chunk cs)) (record_closed c) ∙ ap (λ (rs : List ChunkRec). record_of c ∷ rs) (records_closed cs)
+records_closed (c ∷ cs) = ap (λ (r : ChunkRec). r ∷ map chunk_record (map closed_chunk cs)) (record_closed c) ∙ ap (λ (rs : List ChunkRec). chunk_record c ∷ rs) (records_closed cs)
 
 abbrev free_of : Chunk → ℕ
 free_of chunk = free_count chunk.inodes
@@ -107,9 +107,9 @@ metadata_closed g layouts group chunks place =
     (ap (option_map f) (closed_in chunks place) ∙ option_closed f (core_closed g layouts group place) (inode_in chunks place))
     ∙ sym (by_tests g layouts group chunks place)
 
-pub group_of_closed : (t : Table) (group : ℕ) → group_of (closed t) group ≡ map closed_chunk (group_of t group)
+pub group_of_closed : (t : Table) (group : ℕ) → group_at (closed t) group ≡ map closed_chunk (group_at t group)
 group_of_closed t group =
-    ap (λ (u : Table). group_of u group) (closed_is t)
+    ap (λ (u : Table). group_at u group) (closed_is t)
     ∙ elim (cases_lt group (length t.groups)) [
       | inl lt ↦ get_or-map (map closed_chunk) t.groups group [] [] lt
       | inr past ↦
@@ -124,7 +124,7 @@ bytes_closed g t layouts image s =
     let place : ℕ = s % group_sectors g in
     let old : List ℕ = bytes_at image s in
     ap (λ (o : Option (List ℕ)). cond (ltb s (g.groups * group_sectors g)) (unwrap_or o old) old)
-    (ap (λ (chunks : Group). metadata g layouts group chunks place) (group_of_closed t group) ∙ metadata_closed g layouts group (group_of t group) place)
+    (ap (λ (chunks : Group). metadata g layouts group chunks place) (group_of_closed t group) ∙ metadata_closed g layouts group (group_at t group) place)
 
 pub encoded_closed : (g : Geometry) (t : Table) (layouts : Layouts) (image : List Sector) → encoded g (closed t) layouts image ≡ encoded g t layouts image
 unfolding encoded

@@ -16,10 +16,10 @@ use Rattle.free_map.specs.Bitmap.{BitsAreHeld}
 use Rattle.life_table.specs.declared.types.Row.{Row}
 use Rattle.life_table.specs.declared.table.Inode.{Inode}
 use Rattle.life_table.specs.declared.table.Table.{Table}
-use Rattle.life_table.specs.Table.{Group, group_of, inode_in}
+use Rattle.life_table.specs.Table.{Group, group_at, inode_in}
 use Rattle.life_table.specs.Space.{times}
 use Rattle.life_table.specs.WellFormed.{IsGroup}
-use Rattle.sound_image.specs.Encoding.{page_place, Layouts, CanEncode, list_of, is_unlinked, is_unlinked_row, record_of}
+use Rattle.sound_image.specs.Encoding.{page_place, Layouts, CanEncode, bucket_list, is_unlinked, is_unlinked_row, chunk_record}
 use Rattle.sound_image.proofs.Groups.{InData, all_in_data, in_range}
 use Rattle.sound_image.proofs.Leaves.{leaf_right}
 
@@ -38,13 +38,13 @@ pub record IsReady (g : Geometry) (t : Table) (layouts : Layouts) (image : List 
   pub most : g.blocks ≤ 16384
   pub uuid : length g.uuid ≡ 16
   pub size : g.groups * group_sectors g ≤ length image
-  pub is_group : IsGroup g.blocks (group_of t group)
-  pub data_of : AllByRecursion (InData g.blocks) (group_of t group)
+  pub is_group : IsGroup g.blocks (group_at t group)
+  pub data_of : AllByRecursion (InData g.blocks) (group_at t group)
   pub page_low : 16 ≤ page_place layouts group
   pub page_high : page_place layouts group ≤ 136
-  pub leaf : IsLeaf (map record_of (group_of t group))
+  pub leaf : IsLeaf (map chunk_record (group_at t group))
   pub members : (bucket agino : ℕ) → bucket < 64
-      → times agino (list_of layouts group bucket) ≡ cond (eqb (agino % 64) bucket && is_unlinked (inode_in (group_of t group) agino)) 1 0
+      → times agino (bucket_list layouts group bucket) ≡ cond (eqb (agino % 64) bucket && is_unlinked (inode_in (group_at t group) agino)) 1 0
 
 page_range : (g : Geometry) (t : Table) (layouts : Layouts) (image : List Sector) (group : ℕ) → CanEncode g t layouts image → group < length t.groups
     → (16 ≤ page_place layouts group) × (page_place layouts group ≤ 136)
@@ -56,8 +56,8 @@ ready g t layouts image group can lt =
     let few = can.shape.blocks in
     let many = can.shape.groups in
     let same = can.groups in
-    let is : IsGroup g.blocks (group_of t group) = subst (λ (n : ℕ). IsGroup n (group_of t group)) can.blocks (All-from_recursion (IsGroup t.blocks) t.groups can.table.groups group [] (omega arith)) in
-    let data_of : AllByRecursion (InData g.blocks) (group_of t group) = all_in_data g.blocks (group_of t group) is.chunks is.data_blocks in
+    let is : IsGroup g.blocks (group_at t group) = subst (λ (n : ℕ). IsGroup n (group_at t group)) can.blocks (All-from_recursion (IsGroup t.blocks) t.groups can.table.groups group [] (omega arith)) in
+    let data_of : AllByRecursion (InData g.blocks) (group_at t group) = all_in_data g.blocks (group_at t group) is.chunks is.data_blocks in
     record {
       below = lt;
       small = omega arith;
@@ -69,7 +69,7 @@ ready g t layouts image group can lt =
       data_of = data_of;
       page_low = (page_range g t layouts image group can (omega arith)).0;
       page_high = (page_range g t layouts image group can (omega arith)).1;
-      leaf = leaf_right g.blocks (group_of t group) few.1 is.few is.chunks data_of is.ascends;
+      leaf = leaf_right g.blocks (group_at t group) few.1 is.few is.chunks data_of is.ascends;
       members = λ bucket agino low. can.layouts_of.buckets group bucket agino (omega arith) low;
     }
 
@@ -112,21 +112,21 @@ test_true true h = refl
 test_true false h = absurd (omega arith)
 
 pub member : (g : Geometry) (t : Table) (layouts : Layouts) (image : List Sector) (group bucket agino : ℕ) → IsReady g t layouts image group → bucket < 64
-    → 1 ≤ times agino (list_of layouts group bucket) → Member (group_of t group) bucket agino
+    → 1 ≤ times agino (bucket_list layouts group bucket) → Member (group_at t group) bucket agino
 member g t layouts image group bucket agino r low some =
-    let test = eqb (agino % 64) bucket && is_unlinked (inode_in (group_of t group) agino) in
-    let both = and_parts (eqb (agino % 64) bucket) (is_unlinked (inode_in (group_of t group) agino)) (test_true test (subst (λ (n : ℕ). 1 ≤ n) (r.members bucket agino low) some)) in
-    record { own = eqb-true (agino % 64) bucket both.0; unlinked = unlinked (group_of t group) agino both.1 }
+    let test = eqb (agino % 64) bucket && is_unlinked (inode_in (group_at t group) agino) in
+    let both = and_parts (eqb (agino % 64) bucket) (is_unlinked (inode_in (group_at t group) agino)) (test_true test (subst (λ (n : ℕ). 1 ≤ n) (r.members bucket agino low) some)) in
+    record { own = eqb-true (agino % 64) bucket both.0; unlinked = unlinked (group_at t group) agino both.1 }
 
 pub member_range : (g : Geometry) (t : Table) (layouts : Layouts) (image : List Sector) (group bucket agino : ℕ) → IsReady g t layouts image group → bucket < 64
-    → 1 ≤ times agino (list_of layouts group bucket) → (192 ≤ agino) × (agino < g.blocks * 8)
+    → 1 ≤ times agino (bucket_list layouts group bucket) → (192 ≤ agino) × (agino < g.blocks * 8)
 member_range g t layouts image group bucket agino r low some =
     let m = (member g t layouts image group bucket agino r low some).unlinked in
-    in_range g.blocks (group_of t group) agino m.inode r.data_of m.found
+    in_range g.blocks (group_at t group) agino m.inode r.data_of m.found
 
 pub member_once : (g : Geometry) (t : Table) (layouts : Layouts) (image : List Sector) (group bucket agino : ℕ) → IsReady g t layouts image group → bucket < 64
-    → times agino (list_of layouts group bucket) ≤ 1
-member_once g t layouts image group bucket agino r low = at_most (eqb (agino % 64) bucket && is_unlinked (inode_in (group_of t group) agino)) (r.members bucket agino low)
+    → times agino (bucket_list layouts group bucket) ≤ 1
+member_once g t layouts image group bucket agino r low = at_most (eqb (agino % 64) bucket && is_unlinked (inode_in (group_at t group) agino)) (r.members bucket agino low)
   where
     at_most : {n : ℕ} (b : Bool) → n ≡ cond b 1 0 → n ≤ 1
     at_most true e = omega arith
@@ -134,15 +134,15 @@ member_once g t layouts image group bucket agino r low = at_most (eqb (agino % 6
 
 -- a number without links is in the list of its bucket
 pub unlinked_listed : (g : Geometry) (t : Table) (layouts : Layouts) (image : List Sector) (group agino : ℕ) → IsReady g t layouts image group
-    → is_unlinked (inode_in (group_of t group) agino) ≡ true → times agino (list_of layouts group (agino % 64)) ≡ 1
+    → is_unlinked (inode_in (group_at t group) agino) ≡ true → times agino (bucket_list layouts group (agino % 64)) ≡ 1
 unlinked_listed g t layouts image group agino r e =
     r.members (agino % 64) agino (omega arith)
-    ∙ cond-true (eqb (agino % 64) (agino % 64) && is_unlinked (inode_in (group_of t group) agino)) 1 0 (and_from _ _ (eq-eqb (agino % 64) (agino % 64) refl) e)
+    ∙ cond-true (eqb (agino % 64) (agino % 64) && is_unlinked (inode_in (group_at t group) agino)) 1 0 (and_from _ _ (eq-eqb (agino % 64) (agino % 64) refl) e)
 
 pub linked_not_listed : (g : Geometry) (t : Table) (layouts : Layouts) (image : List Sector) (group agino : ℕ) → IsReady g t layouts image group
-    → is_unlinked (inode_in (group_of t group) agino) ≡ false → times agino (list_of layouts group (agino % 64)) ≡ 0
+    → is_unlinked (inode_in (group_at t group) agino) ≡ false → times agino (bucket_list layouts group (agino % 64)) ≡ 0
 linked_not_listed g t layouts image group agino r e =
-    r.members (agino % 64) agino (omega arith) ∙ none (eqb (agino % 64) (agino % 64)) (is_unlinked (inode_in (group_of t group) agino)) e
+    r.members (agino % 64) agino (omega arith) ∙ none (eqb (agino % 64) (agino % 64)) (is_unlinked (inode_in (group_at t group) agino)) e
   where
     none : (a b : Bool) → b ≡ false → cond {A = ℕ} (a && b) 1 0 ≡ 0
     none true true h = absurd (false≢true (sym h))

@@ -6,7 +6,7 @@ use Rattle.std.proofs.lemmas.List.{length-map, get_or-map}
 use Rattle.life_bytes.specs.declared.sector.Sector.{Sector}
 use Rattle.geometry.specs.declared.shape.Geometry.{Geometry}
 use Rattle.inode_core.specs.declared.shape.Core.{Core}
-use Rattle.inode_core.specs.Cores.{Encodes}
+use Rattle.inode_core.specs.Cores.{EncodesCore}
 use Rattle.extent_fork.specs.Forks.{HasFork}
 use Rattle.extent_fork.specs.Reading.{runs_in}
 use Rattle.extent_fork.specs.Runs.{runs}
@@ -15,7 +15,7 @@ use Rattle.life_table.specs.declared.types.Row.{Row}
 use Rattle.life_table.specs.declared.table.Inode.{Inode}
 use Rattle.life_table.specs.declared.table.Chunk.{Chunk}
 use Rattle.life_table.specs.declared.table.Table.{Table}
-use Rattle.life_table.specs.Table.{Group, group_of}
+use Rattle.life_table.specs.Table.{Group, group_at}
 use Rattle.life_table.specs.Space.{times, chunk_blocks, row_blocks, inode_blocks, used, is_free_block}
 use Rattle.life_table.specs.History.{closed_inode, closed_row}
 use Rattle.sound_image.specs.Places.{bytes_at, part, sector_in, number_in}
@@ -44,7 +44,7 @@ core_right l g t layouts image group agino inode r e =
     let x = is_read l g t layouts image group agino inode r e in
     let s = stored l g t layouts image group agino x.held r x.found in
     record {
-      encoded = subst (λ (core : Core). Encodes (bytes_at new (sector_in g group agino)) (number_in group agino) g.uuid core) (sym s.core_is) s.encoded;
+      encoded = subst (λ (core : Core). EncodesCore (bytes_at new (sector_in g group agino)) (number_in group agino) g.uuid core) (sym s.core_is) s.encoded;
       live = ap (λ (core : Core). core.live) s.core_is ∙ live_for x.held.generation (next_for layouts group agino) x.held.row ∙ ap (λ (i : Inode). is_some i.row) (sym x.same);
     }
 
@@ -61,7 +61,7 @@ fork_right l g t layouts image group agino row r e =
     record {
       runs = subst (λ (n : ℕ). HasFork bytes n group (runs_in n bytes)) (sym s.extents) (subst (HasFork bytes (length (runs x.held.blocks)) group) (sym s.read) s.has);
       in_group = subst (λ (bs : List ℕ). (k d : ℕ) → k < length bs → get_or bs k d < g.blocks) (sym blocks)
-          (λ k d lt. (data_of_row g.blocks (group_of t group) agino x.inode x.held r.is_group x.found x.live k d lt).1);
+          (λ k d lt. (data_of_row g.blocks (group_at t group) agino x.inode x.held r.is_group x.found x.live k d lt).1);
       count = s.count ∙ ap length (sym blocks);
     }
 
@@ -83,7 +83,7 @@ pub blocks_right : (l : Lower) (g : Geometry) (t : Table) (layouts : Layouts) (i
     → row_at g (encoded g t layouts image) group agino ≡ Some row → AreBlocksAlone g (encoded g t layouts image) group agino row
 blocks_right l g t layouts image group agino row r e =
     let new = encoded g t layouts image in
-    let chunks = group_of t group in
+    let chunks = group_at t group in
     let x = is_row_read l g t layouts image group agino row r e in
     let own : (b : ℕ) → times b (row_blocks x.inode.row) ≡ times b row.blocks = λ b. ap (times b) (own_blocks chunks agino row x) in
     record {
@@ -138,5 +138,5 @@ pub bitmap_right : (l : Lower) (g : Geometry) (t : Table) (layouts : Layouts) (i
     → IsBitmapRight g (encoded g t layouts image) group k
 bitmap_right l g t layouts image group k r lt =
     let least = r.least in
-    at_metadata g t layouts image group (8 + k) (part k (bitmap (free_set g.blocks (group_of t group)))) r.size r.below (omega arith) (at_bitmap g layouts group (group_of t group) k lt)
-    ∙ sym (ap (λ (cs : Group). part k (bitmap (free_set g.blocks cs))) (group_is l g t layouts image group r) ∙ ap (λ (set : List Bool). part k (bitmap set)) (free_set_closed g.blocks (group_of t group)))
+    at_metadata g t layouts image group (8 + k) (part k (bitmap (free_set g.blocks (group_at t group)))) r.size r.below (omega arith) (at_bitmap g layouts group (group_at t group) k lt)
+    ∙ sym (ap (λ (cs : Group). part k (bitmap (free_set g.blocks cs))) (group_is l g t layouts image group r) ∙ ap (λ (set : List Bool). part k (bitmap set)) (free_set_closed g.blocks (group_at t group)))

@@ -9,19 +9,19 @@ use Rattle.std.proofs.lemmas.List.Elements.{All-from_recursion}
 use Rattle.std.proofs.lemmas.List.FromFn.{length-map-range_with_len, get_or-map-range_with_len}
 use Rattle.std.proofs.lemmas.Option.{none-some, same_Some, slice_get-map, slice_get-get_or}
 use Rattle.life_bytes.specs.declared.sector.Sector.{Sector}
+use Rattle.life_bytes.specs.Bits.{is_set}
 use Rattle.geometry.specs.declared.shape.Geometry.{Geometry}
 use Rattle.inode_core.specs.declared.shape.Core.{Core}
 use Rattle.inobt_leaf.specs.declared.chunk.ChunkRec.{ChunkRec}
-use Rattle.inobt_leaf.specs.Masks.{is_set}
 use Rattle.life_table.specs.declared.types.Row.{Row}
 use Rattle.life_table.specs.declared.table.Inode.{Inode}
 use Rattle.life_table.specs.declared.table.Chunk.{Chunk}
 use Rattle.life_table.specs.declared.table.Table.{Table}
-use Rattle.life_table.specs.Table.{Group, group_of, inode_in, start_of}
+use Rattle.life_table.specs.Table.{Group, group_at, inode_in, start_of}
 use Rattle.life_table.specs.History.{closed, closed_inode, closed_row}
-use Rattle.life_table.specs.WellFormed.{IsChunk, Ascends}
+use Rattle.life_table.specs.WellFormed.{IsChunk, ChunksAscend}
 use Rattle.sound_image.specs.Reading.{core_of, blocks_in, inode_read, chunk_read, group_read, rows_of, inode_at, row_at}
-use Rattle.sound_image.specs.Encoding.{Layouts, CanEncode, mask_of, record_of, core_for, encoded}
+use Rattle.sound_image.specs.Encoding.{Layouts, CanEncode, mask_of, chunk_record, core_for, encoded}
 use Rattle.sound_image.proofs.Headers.{records_are}
 use Rattle.sound_image.proofs.Inodes.{stored, stored_runs, blocks_are, next_for}
 use Rattle.sound_image.proofs.Leaves.{unused, no_chunk, below_later}
@@ -37,7 +37,7 @@ aligned : (group : Group) → AllByRecursion IsChunk group → AllByRecursion Is
 aligned [] all = tt
 aligned (c ∷ cs) all = (all.0.start, aligned cs all.1)
 
-pub in_chunk : (group : Group) (k i : ℕ) (d : Chunk) → Ascends group → AllByRecursion IsAligned group → k < length group → i < 64
+pub in_chunk : (group : Group) (k i : ℕ) (d : Chunk) → ChunksAscend group → AllByRecursion IsAligned group → k < length group → i < 64
     → inode_in group ((get_or group k d).start + i) ≡ slice_get (get_or group k d).inodes i
 unfolding inode_in
 in_chunk [] k i d up all lt low = absurd (omega arith)
@@ -77,8 +77,8 @@ unfolding mask_of
 mask_bit l inodes i d lt = l.bits.bit (map unused inodes) i ∙ get_or-map unused inodes i d false lt
 
 inode_is : (l : Lower) (g : Geometry) (t : Table) (layouts : Layouts) (image : List Sector) (group : ℕ) (c : Chunk) (i : ℕ) (x : Inode) → IsReady g t layouts image group
-    → inode_in (group_of t group) (c.start + i) ≡ Some x → is_set (mask_of c.inodes) i ≡ is_none x.row → inode_read g (encoded g t layouts image) group (record_of c) i ≡ closed_inode x
-unfolding inode_read record_of
+    → inode_in (group_at t group) (c.start + i) ≡ Some x → is_set (mask_of c.inodes) i ≡ is_none x.row → inode_read g (encoded g t layouts image) group (chunk_record c) i ≡ closed_inode x
+unfolding inode_read chunk_record
 inode_is l g t layouts image group c i x r found bit =
     let new = encoded g t layouts image in
     let a : ℕ = c.start + i in
@@ -101,22 +101,22 @@ chunk_made start inodes = record { start = start; inodes = inodes }
 no_inode : Inode
 no_inode = record { generation = 0; row = None }
 
-chunk_is : (l : Lower) (g : Geometry) (t : Table) (layouts : Layouts) (image : List Sector) (group k : ℕ) (d : Chunk) → IsReady g t layouts image group → k < length (group_of t group)
-    → chunk_read g (encoded g t layouts image) group (record_of (get_or (group_of t group) k d)) ≡ closed_chunk (get_or (group_of t group) k d)
-unfolding chunk_read record_of
+chunk_is : (l : Lower) (g : Geometry) (t : Table) (layouts : Layouts) (image : List Sector) (group k : ℕ) (d : Chunk) → IsReady g t layouts image group → k < length (group_at t group)
+    → chunk_read g (encoded g t layouts image) group (chunk_record (get_or (group_at t group) k d)) ≡ closed_chunk (get_or (group_at t group) k d)
+unfolding chunk_read chunk_record
 chunk_is l g t layouts image group k d r lt =
     let new = encoded g t layouts image in
-    let c : Chunk = get_or (group_of t group) k d in
-    let is = All-from_recursion IsChunk (group_of t group) r.is_group.chunks k d lt in
-    let f : ℕ → Inode = inode_read g new group (record_of c) in
+    let c : Chunk = get_or (group_at t group) k d in
+    let is = All-from_recursion IsChunk (group_at t group) r.is_group.chunks k d lt in
+    let f : ℕ → Inode = inode_read g new group (chunk_record c) in
     ap (chunk_made c.start) (same_lists (map f (range_with_len 0 64)) (map closed_inode c.inodes)
     (length-map-range_with_len f 0 64 ∙ sym (length-map c.inodes closed_inode ∙ is.whole))
     (λ i e low.
     let below : i < 64 = omega (arith, low, length-map-range_with_len f 0 64) in
     let within : i < length c.inodes = omega (arith, is.whole) in
     let x : Inode = get_or c.inodes i no_inode in
-    let found : inode_in (group_of t group) (c.start + i) ≡ Some x =
-    in_chunk (group_of t group) k i d r.is_group.ascends (aligned (group_of t group) r.is_group.chunks) lt below ∙ slice_get-get_or c.inodes i no_inode within in
+    let found : inode_in (group_at t group) (c.start + i) ≡ Some x =
+    in_chunk (group_at t group) k i d r.is_group.ascends (aligned (group_at t group) r.is_group.chunks) lt below ∙ slice_get-get_or c.inodes i no_inode within in
     get_or-map-range_with_len f 0 64 i i e below (omega arith)
     ∙ inode_is l g t layouts image group c i x r found (mask_bit l c.inodes i no_inode within)
     ∙ sym (get_or-map closed_inode c.inodes i no_inode e within)))
@@ -124,19 +124,19 @@ chunk_is l g t layouts image group k d r lt =
 -- ---- one group
 
 pub group_is : (l : Lower) (g : Geometry) (t : Table) (layouts : Layouts) (image : List Sector) (group : ℕ) → IsReady g t layouts image group
-    → group_read g (encoded g t layouts image) group ≡ map closed_chunk (group_of t group)
+    → group_read g (encoded g t layouts image) group ≡ map closed_chunk (group_at t group)
 unfolding group_read
 group_is l g t layouts image group r =
     let new = encoded g t layouts image in
-    let chunks = group_of t group in
+    let chunks = group_at t group in
     let f : ChunkRec → Chunk = chunk_read g new group in
     ap (map f) (records_are l g t layouts image group r)
-    ∙ same_lists (map f (map record_of chunks)) (map closed_chunk chunks)
-    (length-map (map record_of chunks) f ∙ length-map chunks record_of ∙ sym (length-map chunks closed_chunk))
+    ∙ same_lists (map f (map chunk_record chunks)) (map closed_chunk chunks)
+    (length-map (map chunk_record chunks) f ∙ length-map chunks chunk_record ∙ sym (length-map chunks closed_chunk))
     (λ k e low.
-    let within : k < length chunks = omega (arith, low, length-map (map record_of chunks) f, length-map chunks record_of) in
-    get_or-map f (map record_of chunks) k (record_of no_chunk) e (omega (arith, length-map chunks record_of))
-    ∙ ap f (get_or-map record_of chunks k no_chunk (record_of no_chunk) within)
+    let within : k < length chunks = omega (arith, low, length-map (map chunk_record chunks) f, length-map chunks chunk_record) in
+    get_or-map f (map chunk_record chunks) k (chunk_record no_chunk) e (omega (arith, length-map chunks chunk_record))
+    ∙ ap f (get_or-map chunk_record chunks k no_chunk (chunk_record no_chunk) within)
     ∙ chunk_is l g t layouts image group k no_chunk r within
     ∙ sym (get_or-map closed_chunk chunks k no_chunk e within))
 
@@ -191,15 +191,15 @@ read_from None inode e = absurd (none-some inode e)
 read_from (Some x) inode e = (x, refl, sym (same_Some (closed_inode x) inode e))
 
 pub inode_at_is : (l : Lower) (g : Geometry) (t : Table) (layouts : Layouts) (image : List Sector) (group agino : ℕ) → IsReady g t layouts image group
-    → inode_at g (encoded g t layouts image) group agino ≡ option_map closed_inode (inode_in (group_of t group) agino)
+    → inode_at g (encoded g t layouts image) group agino ≡ option_map closed_inode (inode_in (group_at t group) agino)
 unfolding inode_at
 inode_at_is l g t layouts image group agino r =
-    ap (λ (chunks : Group). inode_in chunks agino) (group_is l g t layouts image group r) ∙ closed_in (group_of t group) agino
+    ap (λ (chunks : Group). inode_in chunks agino) (group_is l g t layouts image group r) ∙ closed_in (group_at t group) agino
 
 pub is_read : (l : Lower) (g : Geometry) (t : Table) (layouts : Layouts) (image : List Sector) (group agino : ℕ) (inode : Inode) → IsReady g t layouts image group
-    → inode_at g (encoded g t layouts image) group agino ≡ Some inode → IsRead (group_of t group) agino inode
+    → inode_at g (encoded g t layouts image) group agino ≡ Some inode → IsRead (group_at t group) agino inode
 is_read l g t layouts image group agino inode r e =
-    let found = read_from (inode_in (group_of t group) agino) inode (sym (inode_at_is l g t layouts image group agino r) ∙ e) in
+    let found = read_from (inode_in (group_at t group) agino) inode (sym (inode_at_is l g t layouts image group agino r) ∙ e) in
     record { held = found.0; found = found.1; same = found.2 }
 
 -- a row that is read
@@ -223,8 +223,8 @@ row_of_inode None row e = absurd (none-some row e)
 row_of_inode (Some x) row e = let r = row_from x.row row e in (x, r.0, refl, r.1, r.2, r.3)
 
 pub is_row_read : (l : Lower) (g : Geometry) (t : Table) (layouts : Layouts) (image : List Sector) (group agino : ℕ) (row : Row) → IsReady g t layouts image group
-    → row_at g (encoded g t layouts image) group agino ≡ Some row → IsRowRead (group_of t group) agino row
+    → row_at g (encoded g t layouts image) group agino ≡ Some row → IsRowRead (group_at t group) agino row
 unfolding row_at
 is_row_read l g t layouts image group agino row r e =
-    let found = row_of_inode (inode_in (group_of t group) agino) row (sym (ap (option_and_then (λ (inode : Inode). inode.row)) (inode_at_is l g t layouts image group agino r)) ∙ e) in
+    let found = row_of_inode (inode_in (group_at t group) agino) row (sym (ap (option_and_then (λ (inode : Inode). inode.row)) (inode_at_is l g t layouts image group agino r)) ∙ e) in
     record { inode = found.0; held = found.1; found = found.2; live = found.3; links = found.4; blocks = found.5 }

@@ -11,7 +11,7 @@ use Rattle.life_bytes.specs.Sectors.{zero_sector}
 use Rattle.geometry.specs.declared.shape.Geometry.{Geometry}
 use Rattle.geometry.specs.Places.{group_sectors}
 use Rattle.life_table.specs.declared.table.Table.{Table}
-use Rattle.life_table.specs.Table.{group_of}
+use Rattle.life_table.specs.Table.{group_at}
 use Rattle.sound_image.specs.Places.{bytes_at, bytes_from, part, sector_in}
 use Rattle.sound_image.specs.Encoding.{Layouts, metadata, encoded, encoded_bytes}
 
@@ -40,25 +40,25 @@ pub in_image : (groups size group place : ℕ) → group < groups → place < si
 in_image groups size group place lt low = let all : (group + 1) * size ≤ groups * size = grind arith in omega arith
 
 pub at_place : (g : Geometry) (t : Table) (layouts : Layouts) (image : List Sector) (group place : ℕ) → g.groups * group_sectors g ≤ length image → group < g.groups → place < group_sectors g
-    → bytes_at (encoded g t layouts image) (sector_in g group place) ≡ unwrap_or (metadata g layouts group (group_of t group) place) (bytes_at image (sector_in g group place))
+    → bytes_at (encoded g t layouts image) (sector_in g group place) ≡ unwrap_or (metadata g layouts group (group_at t group) place) (bytes_at image (sector_in g group place))
 unfolding encoded_bytes sector_in
 at_place g t layouts image group place size lt low =
     let within : group * group_sectors g + place < g.groups * group_sectors g = in_image g.groups (group_sectors g) group place lt low in
     let old : List ℕ = bytes_at image (group * group_sectors g + place) in
     bytes_at-encoded g t layouts image (group * group_sectors g + place) (omega arith)
     ∙ cond-true (ltb (group * group_sectors g + place) (g.groups * group_sectors g)) _ _ (lt-ltb (group * group_sectors g + place) (g.groups * group_sectors g) within)
-    ∙ ap (λ (x : ℕ). unwrap_or (metadata g layouts x (group_of t x) ((group * group_sectors g + place) % group_sectors g)) old) (div-mul-add group (group_sectors g) place low)
-    ∙ ap (λ (x : ℕ). unwrap_or (metadata g layouts group (group_of t group) x) old) (mod-mul-add group (group_sectors g) place low)
+    ∙ ap (λ (x : ℕ). unwrap_or (metadata g layouts x (group_at t x) ((group * group_sectors g + place) % group_sectors g)) old) (div-mul-add group (group_sectors g) place low)
+    ∙ ap (λ (x : ℕ). unwrap_or (metadata g layouts group (group_at t group) x) old) (mod-mul-add group (group_sectors g) place low)
 
 -- a place of which the format says what stands there
 pub at_metadata : (g : Geometry) (t : Table) (layouts : Layouts) (image : List Sector) (group place : ℕ) (bytes : List ℕ) → g.groups * group_sectors g ≤ length image → group < g.groups → place < group_sectors g
-    → metadata g layouts group (group_of t group) place ≡ Some bytes → bytes_at (encoded g t layouts image) (sector_in g group place) ≡ bytes
+    → metadata g layouts group (group_at t group) place ≡ Some bytes → bytes_at (encoded g t layouts image) (sector_in g group place) ≡ bytes
 at_metadata g t layouts image group place bytes size lt low e =
     at_place g t layouts image group place size lt low ∙ ap (λ (o : Option (List ℕ)). unwrap_or o (bytes_at image (sector_in g group place))) e
 
 -- one of which it does not
 pub at_rest : (g : Geometry) (t : Table) (layouts : Layouts) (image : List Sector) (group place : ℕ) → g.groups * group_sectors g ≤ length image → group < g.groups → place < group_sectors g
-    → metadata g layouts group (group_of t group) place ≡ None → bytes_at (encoded g t layouts image) (sector_in g group place) ≡ bytes_at image (sector_in g group place)
+    → metadata g layouts group (group_at t group) place ≡ None → bytes_at (encoded g t layouts image) (sector_in g group place) ≡ bytes_at image (sector_in g group place)
 at_rest g t layouts image group place size lt low e =
     at_place g t layouts image group place size lt low ∙ ap (λ (o : Option (List ℕ)). unwrap_or o (bytes_at image (sector_in g group place))) e
 

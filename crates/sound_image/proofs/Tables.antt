@@ -15,10 +15,10 @@ use Rattle.life_table.specs.declared.table.Inode.{Inode}
 use Rattle.life_table.specs.declared.table.Chunk.{Chunk}
 use Rattle.life_table.specs.Table.{Group, inode_in}
 use Rattle.life_table.specs.Space.{times, chunk_blocks, row_blocks, inode_blocks, used}
-use Rattle.life_table.specs.WellFormed.{IsInode, IsChunk, Ascends, IsDataBlock, IsGroup, IsTable}
+use Rattle.life_table.specs.WellFormed.{IsInode, IsChunk, ChunksAscend, IsDataBlock, IsGroup, IsTable}
 use Rattle.sound_image.specs.Reading.{records_of, inode_read, chunk_read, group_read, rows_of}
 use Rattle.sound_image.specs.Rules.{IsPageRight}
-use Rattle.sound_image.specs.Damage.{tree, core, fork, blocks, IsSound}
+use Rattle.sound_image.specs.Damage.{tree, core, fork, blocks, AreGroupsSound}
 use Rattle.sound_image.proofs.Found.{IsGood, is_good, in_ranges, row_data, row_once, row_not_chunk, two_rows}
 use Rattle.sound_image.proofs.Groups.{times-cons, times-nil, used_first, inode_first}
 use Rattle.sound_image.proofs.Leaves.{below_later, no_chunk}
@@ -157,7 +157,7 @@ one_chunk group b c fact rows =
     let q = slice_get_within c.inodes j y f in
     rows.apart b (c.start + i) (c.start + j) x y (λ same. omega (arith, same, lt)) (fact.held i (omega (arith, p, fact.whole)) ∙ e) (fact.held j (omega (arith, q, fact.whole)) ∙ f) some there)
 
-used_once : (group : Group) (b : ℕ) (cs : Group) → Rows group → AllByRecursion (Fact group) cs → Ascends cs → times b (used cs) ≤ 1
+used_once : (group : Group) (b : ℕ) (cs : Group) → Rows group → AllByRecursion (Fact group) cs → ChunksAscend cs → times b (used cs) ≤ 1
 unfolding used
 used_once group b [] rows facts up = omega (arith, times-nil b)
 used_once group b (c ∷ cs) rows facts up =
@@ -223,7 +223,7 @@ all_later : (f : ChunkRec → Chunk) → ((r : ChunkRec) → (f r).start ≡ r.s
 all_later f same start [] each = tt
 all_later f same start (r ∷ rs) each = (omega (arith, same r, each 0 r (omega arith)), all_later f same start rs (λ j d lt. each (suc j) d (omega arith)))
 
-ascends_map : (f : ChunkRec → Chunk) → ((r : ChunkRec) → (f r).start ≡ r.start) → (rs : List ChunkRec) → AllPairs (λ (a b : ChunkRec). a.start < b.start) rs → Ascends (map f rs)
+ascends_map : (f : ChunkRec → Chunk) → ((r : ChunkRec) → (f r).start ≡ r.start) → (rs : List ChunkRec) → AllPairs (λ (a b : ChunkRec). a.start < b.start) rs → ChunksAscend (map f rs)
 ascends_map f same [] pairs = tt
 ascends_map f same (r ∷ rs) pairs = (
   subst (λ (start : ℕ). AllByRecursion (λ (later : Chunk). start < later.start) (map f rs)) (sym (same r))
@@ -231,9 +231,9 @@ ascends_map f same (r ∷ rs) pairs = (
   ascends_map f same rs (λ i j d lt within. pairs (suc i) (suc j) d (omega arith) (omega arith)),
 )
 
-pub ascends_read : (g : Geometry) (image : List Sector) (group : ℕ) → IsLeaf (records_of g image group) → Ascends (group_read g image group)
+pub ascends_read : (g : Geometry) (image : List Sector) (group : ℕ) → IsLeaf (records_of g image group) → ChunksAscend (group_read g image group)
 ascends_read g image group leaf =
-    subst Ascends (sym (group_is_map g image group)) (ascends_map (chunk_read g image group) (start_read g image group) (records_of g image group) leaf.ascends)
+    subst ChunksAscend (sym (group_is_map g image group)) (ascends_map (chunk_read g image group) (start_read g image group) (records_of g image group) leaf.ascends)
 
 even_read : (g : Geometry) (image : List Sector) (group : ℕ) → IsLeaf (records_of g image group) → (k : ℕ) (d : Chunk) → k < length (group_read g image group)
     → (get_or (group_read g image group) k d).start % 64 ≡ 0
@@ -310,10 +310,10 @@ group_right l g image group good page = record {
 
 -- ---- the table
 
-pub good_group : (g : Geometry) (image : List Sector) (group : ℕ) → IsSound g image → group < g.groups → IsGood g image group
+pub good_group : (g : Geometry) (image : List Sector) (group : ℕ) → AreGroupsSound g image → group < g.groups → IsGood g image group
 good_group g image group sound lt = record { cores = sound core group lt; forks = sound fork group lt; alone = sound blocks group lt }
 
-pub table_right : (l : Lower) (g : Geometry) (image : List Sector) → IsGeometry g → IsSound g image → IsTable (rows_of g image)
+pub table_right : (l : Lower) (g : Geometry) (image : List Sector) → IsGeometry g → AreGroupsSound g image → IsTable (rows_of g image)
 unfolding rows_of
 table_right l g image is sound =
     let f : ℕ → Group = group_read g image in

@@ -5,9 +5,9 @@ use Rattle.life_bytes.specs.declared.sector.Sector.{Sector}
 use Rattle.geometry.specs.declared.shape.Geometry.{Geometry}
 use Rattle.life_table.specs.declared.table.Inode.{Inode}
 use Rattle.life_table.specs.declared.table.Table.{Table}
-use Rattle.life_table.specs.Table.{group_of, inode_in}
+use Rattle.life_table.specs.Table.{group_at, inode_in}
 use Rattle.sound_image.specs.Places.{bytes_at, sector_in}
-use Rattle.sound_image.specs.Damage.{Rule, header, tree, core, fork, blocks, bitmap, pointers, lists, HoldsIn, IsSound}
+use Rattle.sound_image.specs.Damage.{Rule, header, tree, core, fork, blocks, bitmap, pointers, lists, HoldsIn, AreGroupsSound}
 use Rattle.sound_image.specs.Encoding.{Layouts, CanEncode, inode_sector, metadata, encoded}
 use Rattle.sound_image.proofs.Buckets.{pointers_right, lists_right}
 use Rattle.sound_image.proofs.Groups.{in_range}
@@ -27,7 +27,7 @@ holds_in l g t layouts image bitmap group r = λ k. bitmap_right l g t layouts i
 holds_in l g t layouts image pointers group r = λ bucket. pointers_right l g t layouts image group bucket r
 holds_in l g t layouts image lists group r = λ agino row. lists_right l g t layouts image group agino row r
 
-pub sound : (l : Lower) (g : Geometry) (t : Table) (layouts : Layouts) (image : List Sector) → CanEncode g t layouts image → IsSound g (encoded g t layouts image)
+pub sound : (l : Lower) (g : Geometry) (t : Table) (layouts : Layouts) (image : List Sector) → CanEncode g t layouts image → AreGroupsSound g (encoded g t layouts image)
 sound l g t layouts image can = λ rule group lt. holds_in l g t layouts image rule group (ready g t layouts image group can lt)
 
 -- sector 0 is no inode's
@@ -44,7 +44,7 @@ first_stays g t layouts image can =
     let some = can.shape.groups in
     let few = can.shape.blocks in
     let r = ready g t layouts image 0 can (omega arith) in
-    let none : metadata g layouts 0 (group_of t 0) 0 ≡ None =
-    at_first g layouts 0 (group_of t 0) r.page_low
-    ∙ no_first (inode_in (group_of t 0) 0) (inode_sector g layouts 0 0) (λ x found. omega (arith, in_range g.blocks (group_of t 0) 0 x r.data_of found)) in
+    let none : metadata g layouts 0 (group_at t 0) 0 ≡ None =
+    at_first g layouts 0 (group_at t 0) r.page_low
+    ∙ no_first (inode_in (group_at t 0) 0) (inode_sector g layouts 0 0) (λ x found. omega (arith, in_range g.blocks (group_at t 0) 0 x r.data_of found)) in
     subst (λ (s : ℕ). bytes_at (encoded g t layouts image) s ≡ bytes_at image s) (first_place g) (at_rest g t layouts image 0 0 can.size (omega arith) (omega arith) none)

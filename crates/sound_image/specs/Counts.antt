@@ -10,8 +10,8 @@ use Rattle.sound_image.specs.Encoding.{is_unlinked_row}
 unfoldable pub inodes_in : Group → ℕ
 inodes_in group = sum_by (λ (chunk : Chunk). count_by (λ (inode : Inode). is_some inode.row) chunk.inodes) group
 
-unfoldable pub orphans_in : Group → ℕ
-orphans_in group = sum_by (λ (chunk : Chunk). count_by (λ (inode : Inode). is_unlinked_row inode.row) chunk.inodes) group
+unfoldable pub orphans_in_group : Group → ℕ
+orphans_in_group group = sum_by (λ (chunk : Chunk). count_by (λ (inode : Inode). is_unlinked_row inode.row) chunk.inodes) group
 
 -- of all groups
 unfoldable pub chunk_count : Table → ℕ
@@ -21,4 +21,4 @@ unfoldable pub inode_count : Table → ℕ
 inode_count t = sum_by inodes_in t.groups
 
 unfoldable pub orphan_count : Table → ℕ
-orphan_count t = sum_by orphans_in t.groups
+orphan_count t = sum_by orphans_in_group t.groups

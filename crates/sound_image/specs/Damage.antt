@@ -21,15 +21,15 @@ pub data Rule : Type 0 where
   lists : Rule
 
 -- the number of a rule; rules 1 to 4 are those of the superblock, the image's size, the anchor and the log
-abbrev pub number_of : Rule → ℕ
-number_of header = 5
-number_of tree = 6
-number_of core = 7
-number_of fork = 8
-number_of blocks = 9
-number_of bitmap = 10
-number_of pointers = 11
-number_of lists = 12
+abbrev pub groups_rule_number : Rule → ℕ
+groups_rule_number header = 5
+groups_rule_number tree = 6
+groups_rule_number core = 7
+groups_rule_number fork = 8
+groups_rule_number blocks = 9
+groups_rule_number bitmap = 10
+groups_rule_number pointers = 11
+groups_rule_number lists = 12
 
 -- the rule holds at each place of a group
 abbrev pub HoldsIn : Geometry → List Sector → Rule → ℕ → Type 0
@@ -61,18 +61,18 @@ BreaksIn g image lists group s =
     (agino : ℕ) × (row : Row) × (s ≡ sector_in g group agino) × (row_at g image group agino ≡ Some row) × ¬ IsListed g image group agino row
 
 -- the rule holds, and it is broken at a sector
-abbrev pub Holds : Geometry → List Sector → Rule → Type 0
-Holds g image rule = (group : ℕ) → group < g.groups → HoldsIn g image rule group
+abbrev pub GroupsHold : Geometry → List Sector → Rule → Type 0
+GroupsHold g image rule = (group : ℕ) → group < g.groups → HoldsIn g image rule group
 
-abbrev pub Breaks : Geometry → List Sector → Rule → ℕ → Type 0
-Breaks g image rule s = (group : ℕ) × (group < g.groups) × BreaksIn g image rule group s
+abbrev pub GroupsBreak : Geometry → List Sector → Rule → ℕ → Type 0
+GroupsBreak g image rule s = (group : ℕ) × (group < g.groups) × BreaksIn g image rule group s
 
 -- the groups of the image are sound
-abbrev pub IsSound : Geometry → List Sector → Type 0
-IsSound g image = (rule : Rule) → Holds g image rule
+abbrev pub AreGroupsSound : Geometry → List Sector → Type 0
+AreGroupsSound g image = (rule : Rule) → GroupsHold g image rule
 
 -- the least rule that is broken, and the least sector at which it is
-pub record FirstDamage (g : Geometry) (image : List Sector) (rule : Rule) (s : ℕ) : Type 0 where
-  pub before : (other : Rule) → number_of other < number_of rule → Holds g image other
-  pub broken : Breaks g image rule s
-  pub least : (other : ℕ) → Breaks g image rule other → s ≤ other
+pub record FirstGroupsDamage (g : Geometry) (image : List Sector) (rule : Rule) (s : ℕ) : Type 0 where
+  pub before : (other : Rule) → groups_rule_number other < groups_rule_number rule → GroupsHold g image other
+  pub broken : GroupsBreak g image rule s
+  pub least : (other : ℕ) → GroupsBreak g image rule other → s ≤ other

@@ -9,19 +9,19 @@ use Rattle.geometry.specs.Places.{group_sectors}
 use Rattle.geometry.specs.Shape.{IsGeometry}
 use Rattle.inode_core.specs.declared.shape.Core.{Core}
 use Rattle.inode_core.specs.Cores.{no_fork}
-use Rattle.inode_core.specs.Cores.{encoding as core_encoding}
+use Rattle.inode_core.specs.Cores.{core_encoding}
 use Rattle.extent_fork.specs.Forks.{fork}
 use Rattle.extent_fork.specs.Runs.{runs}
 use Rattle.ag_header.specs.declared.agi.Agi.{Agi}
-use Rattle.ag_header.specs.Headers.{encoding as header_encoding}
+use Rattle.ag_header.specs.Headers.{header_encoding}
 use Rattle.inobt_leaf.specs.declared.chunk.ChunkRec.{ChunkRec}
-use Rattle.inobt_leaf.specs.Pages.{encoding as page_encoding}
+use Rattle.inobt_leaf.specs.Pages.{page_encoding}
 use Rattle.free_map.specs.Bitmap.{number_of_bits, bitmap}
 use Rattle.life_table.specs.declared.types.Row.{Row}
 use Rattle.life_table.specs.declared.table.Inode.{Inode}
 use Rattle.life_table.specs.declared.table.Chunk.{Chunk}
 use Rattle.life_table.specs.declared.table.Table.{Table}
-use Rattle.life_table.specs.Table.{Group, inode_in, group_of}
+use Rattle.life_table.specs.Table.{Group, inode_in, group_at}
 use Rattle.life_table.specs.Space.{times}
 use Rattle.life_table.specs.WellFormed.{IsTable}
 use Rattle.sound_image.specs.Places.{bytes_at, part, sector_in, number_in, header_place, bitmap_place, bitmap_sectors}
@@ -44,8 +44,8 @@ layout_of layouts group = slice_index_or layouts group (record { page = FIRST_PA
 unfoldable pub page_of : Layouts → ℕ → ℕ
 page_of layouts group = (layout_of layouts group).page
 
-unfoldable pub list_of : Layouts → ℕ → ℕ → List ℕ
-list_of layouts group bucket = slice_index_or (layout_of layouts group).buckets bucket []
+unfoldable pub bucket_list : Layouts → ℕ → ℕ → List ℕ
+bucket_list layouts group bucket = slice_index_or (layout_of layouts group).buckets bucket []
 
 -- the head of a list, and what follows a member of it: the end where nothing does, and for one that is no member
 unfoldable pub head_of : List ℕ → ℕ
@@ -70,7 +70,7 @@ is_unlinked (Some inode) = is_unlinked_row inode.row
 pub record AreLayouts (t : Table) (layouts : Layouts) : Type 0 where
   pub pages : (group : ℕ) → group < length t.groups → (FIRST_PAGE_BLOCK ≤ page_of layouts group) × (page_of layouts group ≤ LAST_PAGE_BLOCK)
   pub buckets : (group bucket agino : ℕ) → group < length t.groups → bucket < BUCKETS
-      → times agino (list_of layouts group bucket) ≡ (if (agino % BUCKETS == bucket) && is_unlinked (inode_in (group_of t group) agino) then 1 else 0)
+      → times agino (bucket_list layouts group bucket) ≡ (if (agino % BUCKETS == bucket) && is_unlinked (inode_in (group_at t group) agino) then 1 else 0)
 
 -- the mask of a chunk: bit i is set where inode i is not in use
 unfoldable pub mask_of : List Inode → ℕ
@@ -81,8 +81,8 @@ unfoldable pub free_count : List Inode → ℕ
 free_count inodes = count_by (λ (inode : Inode). is_none inode.row) inodes
 
 -- the record of a chunk
-unfoldable pub record_of : Chunk → ChunkRec
-record_of chunk = record { start = chunk.start; free = free_count chunk.inodes; mask = mask_of chunk.inodes }
+unfoldable pub chunk_record : Chunk → ChunkRec
+chunk_record chunk = record { start = chunk.start; free = free_count chunk.inodes; mask = mask_of chunk.inodes }
 
 -- the header of a group with these chunks and layouts
 unfoldable pub header_for : Geometry → ℕ → Group → Layouts → Agi
@@ -94,7 +94,7 @@ header_for g group chunks layouts =
       root = page_of layouts group;
       level = 1;
       free = sum_by (λ (chunk : Chunk). free_count chunk.inodes) chunks;
-      heads = map (λ bucket. head_of (list_of layouts group bucket)) (range_with_len 0 BUCKETS);
+      heads = map (λ bucket. head_of (bucket_list layouts group bucket)) (range_with_len 0 BUCKETS);
       uuid = g.uuid;
     }
 
@@ -120,7 +120,7 @@ fork_for group (Some row) = fork group (runs row.blocks)
 -- its sector
 unfoldable pub inode_sector : Geometry → Layouts → ℕ → ℕ → Inode → List ℕ
 inode_sector g layouts group agino inode =
-    core_encoding (core_for inode.generation inode.row (next_in (list_of layouts group (agino % BUCKETS)) agino)) (number_in group agino) g.uuid (fork_for group inode.row)
+    core_encoding (core_for inode.generation inode.row (next_in (bucket_list layouts group (agino % BUCKETS)) agino)) (number_in group agino) g.uuid (fork_for group inode.row)
 
 -- where the page of a group stands in it
 unfoldable pub page_place : Layouts → ℕ → ℕ
@@ -128,7 +128,7 @@ page_place layouts group = BLOCK_SECTORS * page_of layouts group
 
 -- its page
 unfoldable pub page_bytes : Geometry → Layouts → ℕ → Group → List ℕ
-page_bytes g layouts group chunks = page_encoding (map record_of chunks) group (sector_in g group (page_place layouts group)) g.uuid
+page_bytes g layouts group chunks = page_encoding (map chunk_record chunks) group (sector_in g group (page_place layouts group)) g.uuid
 
 -- The bytes that stand at a place of a group with these chunks and layouts, where the format says what stands there.
 unfoldable pub metadata : Geometry → Layouts → ℕ → Group → ℕ → Option (List ℕ)
@@ -143,7 +143,7 @@ metadata g layouts group chunks place =
 unfoldable pub encoded_bytes : Geometry → Table → Layouts → List Sector → ℕ → List ℕ
 encoded_bytes g t layouts image s =
     if nat_lt s (g.groups * group_sectors g)
-    then unwrap_or (metadata g layouts (s / group_sectors g) (group_of t (s / group_sectors g)) (s % group_sectors g)) (bytes_at image s)
+    then unwrap_or (metadata g layouts (s / group_sectors g) (group_at t (s / group_sectors g)) (s % group_sectors g)) (bytes_at image s)
     else bytes_at image s
 
 -- the sectors with each metadata sector of the groups as it is encoded for a table and layouts; all others stay

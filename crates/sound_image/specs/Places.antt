@@ -7,10 +7,6 @@ use Rattle.life_bytes.specs.Sectors.{zero_sector}
 use Rattle.geometry.specs.declared.shape.Geometry.{Geometry}
 use Rattle.geometry.specs.Places.{group_sectors}
 
--- each has the bytes of a sector, as every value of that type has
-abbrev pub AreSectors : List Sector → Type 0
-AreSectors image = All (λ sector. length sector.bytes ≡ SECTOR_BYTES) image
-
 -- the bytes of a sector
 unfoldable pub bytes_at : List Sector → ℕ → List ℕ
 bytes_at image s = (slice_index_or image s zero_sector).bytes

@@ -5,13 +5,13 @@ use Rattle.std.specs.List.{range_with_len}
 use Rattle.life_limits.specs.declared.TheConstants.{BLOCK_SECTORS, BUCKETS, CHUNK_INODES, FIRST_DATA_BLOCK, NO_INODE}
 use Rattle.life_bytes.specs.declared.sector.Sector.{Sector}
 use Rattle.geometry.specs.declared.shape.Geometry.{Geometry}
-use Rattle.inode_core.specs.Cores.{Encodes}
+use Rattle.inode_core.specs.Cores.{EncodesCore}
 use Rattle.extent_fork.specs.Forks.{HasFork}
 use Rattle.extent_fork.specs.Reading.{runs_in}
-use Rattle.ag_header.specs.Headers.{Encodes as EncodesHeader}
+use Rattle.ag_header.specs.Headers.{EncodesHeader}
 use Rattle.inobt_leaf.specs.declared.chunk.ChunkRec.{ChunkRec}
 use Rattle.inobt_leaf.specs.Chunks.{IsLeaf}
-use Rattle.inobt_leaf.specs.Pages.{encoding}
+use Rattle.inobt_leaf.specs.Pages.{page_encoding}
 use Rattle.free_map.specs.Bitmap.{bitmap}
 use Rattle.life_table.specs.declared.types.Row.{Row}
 use Rattle.life_table.specs.declared.table.Inode.{Inode}
@@ -36,7 +36,7 @@ IsInData blocks chunk = (FIRST_DATA_BLOCK ≤ chunk.start / BLOCK_SECTORS) × (c
 -- of 64, and each free count is the number of bits of its mask. The blocks of each chunk are data blocks.
 pub record IsPageRight (g : Geometry) (image : List Sector) (group : ℕ) : Type 0 where
   pub leaf : IsLeaf (records_of g image group)
-  pub encoded : bytes_from image (page_sector g image group) BLOCK_SECTORS ≡ encoding (records_of g image group) group (page_sector g image group) g.uuid
+  pub encoded : bytes_from image (page_sector g image group) BLOCK_SECTORS ≡ page_encoding (records_of g image group) group (page_sector g image group) g.uuid
   pub in_data : All (IsInData g.blocks) (records_of g image group)
 
 -- the header counts the inodes of the chunks, and the free ones among them
@@ -46,7 +46,7 @@ pub record AreCountsRight (g : Geometry) (image : List Sector) (group : ℕ) : T
 
 -- the sector of an inode of a chunk encodes a core with its number and the uuid, which is in use where the mask says so
 pub record IsCoreRight (g : Geometry) (image : List Sector) (group agino : ℕ) (inode : Inode) : Type 0 where
-  pub encoded : Encodes (inode_bytes g image group agino) (number_in group agino) g.uuid (core_of g image group agino)
+  pub encoded : EncodesCore (inode_bytes g image group agino) (number_in group agino) g.uuid (core_of g image group agino)
   pub live : (core_of g image group agino).live ≡ is_some inode.row
 
 -- The fork of an inode in use is that of its runs, all of which lie in its group, and the core counts their blocks. That the size fits

@@ -4,15 +4,16 @@ ghost use Rattle.std.specs.Prelude.{◌≡◌, ◌≤◌, ◌<◌, ◌*◌, ◌/
 ghost use Rattle.life_limits.specs.declared.TheConstants.{BLOCK_SECTORS, BUCKETS, CHUNK_INODES};
 ghost use Rattle.life_bytes.specs.declared.sector.Sector.{Sector};
 ghost use Rattle.life_bytes.specs.SectorBytes.{bytes_of};
+ghost use Rattle.life_bytes.specs.Sectors.{AreSectors};
 ghost use Rattle.geometry.specs.declared.shape.Geometry.{Geometry};
 ghost use Rattle.geometry.specs.Places.{group_sectors};
 ghost use Rattle.geometry.specs.Shape.{IsGeometry};
 ghost use Rattle.life_table.specs.declared.table.Table.{Table};
-ghost use Rattle.life_table.specs.Table.{group_of, inode_in};
-ghost use Rattle.inode_core.specs.Cores.{Encodes};
+ghost use Rattle.life_table.specs.Table.{group_at, inode_in};
+ghost use Rattle.inode_core.specs.Cores.{EncodesCore};
 ghost use Rattle.extent_fork.specs.Forks.{HasFork};
 ghost use Rattle.extent_fork.specs.Runs.{runs};
-ghost use Rattle.ag_header.specs.Headers.{Encodes as EncodesHeader};
+ghost use Rattle.ag_header.specs.Headers.{EncodesHeader};
 ghost use Rattle.inobt_leaf.specs.declared.chunk.ChunkRec.{ChunkRec};
 ghost use Rattle.inobt_leaf.specs.Chunks.{IsLeaf};
 ghost use Rattle.free_map.specs.Bitmap.{bitmap};
@@ -20,12 +21,12 @@ ghost use Rattle.life_table.specs.declared.types.Row.{Row};
 ghost use Rattle.life_table.specs.declared.table.Inode.{Inode};
 ghost use Rattle.life_table.specs.History.{closed};
 ghost use Rattle.life_table.specs.WellFormed.{IsTable};
-ghost use Rattle.sound_image.specs.Places.{AreSectors, bitmap_place, bitmap_sectors, bytes_at, bytes_from, header_place, number_in, part, sector_in};
+ghost use Rattle.sound_image.specs.Places.{bitmap_place, bitmap_sectors, bytes_at, bytes_from, header_place, number_in, part, sector_in};
 ghost use Rattle.sound_image.specs.Reading.{group_read, inode_at, inode_read, IsOfChunk, records_of, rows_of};
 ghost use Rattle.sound_image.specs.Counts.{inodes_in};
-ghost use Rattle.sound_image.specs.Damage.{Rule, BreaksIn, FirstDamage, HoldsIn, IsSound, number_of};
+ghost use Rattle.sound_image.specs.Damage.{Rule, BreaksIn, FirstGroupsDamage, HoldsIn, AreGroupsSound, groups_rule_number};
 ghost use Rattle.sound_image.specs.Rules.{free_set};
-ghost use Rattle.sound_image.specs.Encoding.{Layouts, CanEncode, core_for, header_for, inode_sector, list_of, metadata, next_in, page_bytes, page_place, record_of, encoded};
+ghost use Rattle.sound_image.specs.Encoding.{Layouts, CanEncode, core_for, header_for, inode_sector, bucket_list, metadata, next_in, page_bytes, page_place, chunk_record, encoded};
 
 use ag_header::encoded_headers_are_read;
 use extent_fork::encoded_forks_are_read;
@@ -37,7 +38,7 @@ use inode_core::encoded_cores_are_read;
 /// A law: what encodes a well-formed table with layouts of it, bucket lists of its rows without links among them, is sound, and the rows, chunks and generations read from
 /// it are the table's, with no opens.
 pub fn encoded_images_are_sound()
-    ensures sound { (g : Geometry) (t : Table) (layouts : Layouts) (image : List Sector) → CanEncode g t layouts image → IsSound g (encoded g t layouts image) }
+    ensures sound { (g : Geometry) (t : Table) (layouts : Layouts) (image : List Sector) → CanEncode g t layouts image → AreGroupsSound g (encoded g t layouts image) }
     ensures rows { (g : Geometry) (t : Table) (layouts : Layouts) (image : List Sector) → CanEncode g t layouts image → rows_of g (encoded g t layouts image) ≡ closed t }
 {
     encoded_cores_are_read();
@@ -50,24 +51,24 @@ pub fn encoded_images_are_sound()
 /// A law: what stands in each sector of an image that encodes a table, and what it reads as: the header, the page, the bitmap, and each inode of a chunk.
 pub fn encoded_places()
     ensures header { (g : Geometry) (t : Table) (layouts : Layouts) (image : List Sector) (group : ℕ) → CanEncode g t layouts image → group < g.groups
-        → EncodesHeader (bytes_at (encoded g t layouts image) (sector_in g group header_place)) (header_for g group (group_of t group) layouts) }
+        → EncodesHeader (bytes_at (encoded g t layouts image) (sector_in g group header_place)) (header_for g group (group_at t group) layouts) }
     ensures leaf { (g : Geometry) (t : Table) (layouts : Layouts) (image : List Sector) (group : ℕ) → CanEncode g t layouts image → group < g.groups
-        → IsLeaf (map record_of (group_of t group)) }
+        → IsLeaf (map chunk_record (group_at t group)) }
     ensures page { (g : Geometry) (t : Table) (layouts : Layouts) (image : List Sector) (group : ℕ) → CanEncode g t layouts image → group < g.groups
-        → bytes_from (encoded g t layouts image) (sector_in g group (page_place layouts group)) BLOCK_SECTORS ≡ page_bytes g layouts group (group_of t group) }
+        → bytes_from (encoded g t layouts image) (sector_in g group (page_place layouts group)) BLOCK_SECTORS ≡ page_bytes g layouts group (group_at t group) }
     ensures page_sector { (g : Geometry) (t : Table) (layouts : Layouts) (image : List Sector) (group k : ℕ) → CanEncode g t layouts image → group < g.groups → k < BLOCK_SECTORS
-        → bytes_at (encoded g t layouts image) (sector_in g group (page_place layouts group + k)) ≡ part k (page_bytes g layouts group (group_of t group)) }
+        → bytes_at (encoded g t layouts image) (sector_in g group (page_place layouts group + k)) ≡ part k (page_bytes g layouts group (group_at t group)) }
     ensures bitmap { (g : Geometry) (t : Table) (layouts : Layouts) (image : List Sector) (group k : ℕ) → CanEncode g t layouts image → group < g.groups → k < bitmap_sectors
-        → bytes_at (encoded g t layouts image) (sector_in g group (bitmap_place + k)) ≡ part k (bitmap (free_set g.blocks (group_of t group))) }
+        → bytes_at (encoded g t layouts image) (sector_in g group (bitmap_place + k)) ≡ part k (bitmap (free_set g.blocks (group_at t group))) }
     ensures inode { (g : Geometry) (t : Table) (layouts : Layouts) (image : List Sector) (group agino : ℕ) (inode : Inode) → CanEncode g t layouts image → group < g.groups
-        → inode_in (group_of t group) agino ≡ Some inode
+        → inode_in (group_at t group) agino ≡ Some inode
         → bytes_at (encoded g t layouts image) (sector_in g group agino) ≡ inode_sector g layouts group agino inode }
     ensures core { (g : Geometry) (t : Table) (layouts : Layouts) (image : List Sector) (group agino : ℕ) (inode : Inode) → CanEncode g t layouts image → group < g.groups
-        → inode_in (group_of t group) agino ≡ Some inode
-        → Encodes (bytes_at (encoded g t layouts image) (sector_in g group agino)) (number_in group agino) g.uuid
-        (core_for inode.generation inode.row (next_in (list_of layouts group (agino % BUCKETS)) agino)) }
+        → inode_in (group_at t group) agino ≡ Some inode
+        → EncodesCore (bytes_at (encoded g t layouts image) (sector_in g group agino)) (number_in group agino) g.uuid
+        (core_for inode.generation inode.row (next_in (bucket_list layouts group (agino % BUCKETS)) agino)) }
     ensures fork { (g : Geometry) (t : Table) (layouts : Layouts) (image : List Sector) (group agino : ℕ) (inode : Inode) (row : Row) → CanEncode g t layouts image → group < g.groups
-        → inode_in (group_of t group) agino ≡ Some inode → inode.row ≡ Some row
+        → inode_in (group_at t group) agino ≡ Some inode → inode.row ≡ Some row
         → HasFork (bytes_at (encoded g t layouts image) (sector_in g group agino)) (length (runs row.blocks)) group (runs row.blocks) }
 {
     encoded_cores_are_read();
@@ -85,7 +86,7 @@ pub fn encoding_leaves_the_rest()
     ensures behind { (g : Geometry) (t : Table) (layouts : Layouts) (image : List Sector) (s : ℕ) → s < length image → g.groups * group_sectors g ≤ s
         → bytes_at (encoded g t layouts image) s ≡ bytes_at image s }
     ensures others { (g : Geometry) (t : Table) (layouts : Layouts) (image : List Sector) (group place : ℕ) → g.groups * group_sectors g ≤ length image → group < g.groups
-        → place < group_sectors g → metadata g layouts group (group_of t group) place ≡ None
+        → place < group_sectors g → metadata g layouts group (group_at t group) place ≡ None
         → bytes_at (encoded g t layouts image) (sector_in g group place) ≡ bytes_at image (sector_in g group place) }
     // Nor does it tell who holds an inode.
     ensures no_opens { (g : Geometry) (t : Table) (layouts : Layouts) (image : List Sector) → encoded g (closed t) layouts image ≡ encoded g t layouts image }
@@ -93,19 +94,19 @@ pub fn encoding_leaves_the_rest()
 
 /// A law: an image has at most one first damage, and none where it is sound.
 pub fn one_first_damage()
-    ensures one { (g : Geometry) (image : List Sector) (a b : Rule) (s t : ℕ) → FirstDamage g image a s → FirstDamage g image b t → (a ≡ b) × (s ≡ t) }
-    ensures none { (g : Geometry) (image : List Sector) (a : Rule) (s : ℕ) → IsSound g image → ¬ FirstDamage g image a s }
+    ensures one { (g : Geometry) (image : List Sector) (a b : Rule) (s t : ℕ) → FirstGroupsDamage g image a s → FirstGroupsDamage g image b t → (a ≡ b) × (s ≡ t) }
+    ensures none { (g : Geometry) (image : List Sector) (a : Rule) (s : ℕ) → AreGroupsSound g image → ¬ FirstGroupsDamage g image a s }
 {}
 
 /// A law: a rule that holds in a group is broken at no sector of it, and no two rules have one number.
 pub fn rules_hold_or_break()
     ensures not_both { (g : Geometry) (image : List Sector) (rule : Rule) (group s : ℕ) → HoldsIn g image rule group → ¬ BreaksIn g image rule group s }
-    ensures numbers { (a b : Rule) → number_of a ≡ number_of b → a ≡ b }
+    ensures numbers { (a b : Rule) → groups_rule_number a ≡ groups_rule_number b → a ≡ b }
 {}
 
 /// A law: the table that a sound image has is well formed, and nobody holds an inode of it.
 pub fn sound_tables_are_well_formed()
-    ensures well_formed { (g : Geometry) (image : List Sector) → IsGeometry g → IsSound g image → IsTable (rows_of g image) }
+    ensures well_formed { (g : Geometry) (image : List Sector) → IsGeometry g → AreGroupsSound g image → IsTable (rows_of g image) }
     ensures no_opens { (g : Geometry) (image : List Sector) → closed (rows_of g image) ≡ rows_of g image }
 {
     encoded_cores_are_read();
@@ -117,7 +118,7 @@ pub fn sound_tables_are_well_formed()
 
 /// A law: a sound image is the encoding of its table, with layouts of it. So the rules leave no sector of the format open, and hold of no other image.
 pub fn sound_images_are_encoded()
-    ensures { (g : Geometry) (image : List Sector) → IsGeometry g → IsSound g image → g.groups * group_sectors g ≤ length image → AreSectors image
+    ensures { (g : Geometry) (image : List Sector) → IsGeometry g → AreGroupsSound g image → g.groups * group_sectors g ≤ length image → AreSectors image
         → (layouts : Layouts) × CanEncode g (rows_of g image) layouts image × (encoded g (rows_of g image) layouts image ≡ image) }
 {
     encoded_cores_are_read();

@@ -10,7 +10,7 @@ use Rattle.life_bytes.specs.Fields.{field}
 use Rattle.life_bytes.specs.TableLaws.{number_at}
 use Rattle.life_bytes.specs.declared.sector.Sector.{Sector}
 use Rattle.log_record.specs.declared.record.LogRecord.{LogRecord}
-use Rattle.log_record.specs.Encoding.{IsRecord, FitsFields, payload, sector_at, sector_count, stamps}
+use Rattle.log_record.specs.Encoding.{IsRecord, FitsFields, payload, record_sector, sector_count, stamps}
 use Rattle.log_record.specs.Whole.{IsWholeAt, at_place}
 use Rattle.thin_image.specs.NextRecord.{IsNextRecord, IsPartlyOver, SameAt, HasSector}
 use Rattle.thin_image.specs.Replay.{IsLog, IsLogged, IsBehind, HoldsPosition}
@@ -25,7 +25,7 @@ pub record WholeLaws : Type 0 where
       → i < sector_count (length item.images)
       → (field 8 0 (at_place ring (position + i) d).bytes ≡ position + i) × (field 8 8 (at_place ring (position + i) d).bytes ≡ position)
   pub counted : (ring : List Sector) (position : ℕ) (a b : LogRecord) → IsRecord a → FitsFields a
-      → ((d : Sector) → at_place ring position d ≡ sector_at a 0) → IsWholeAt ring position b → length a.images ≡ length b.images
+      → ((d : Sector) → at_place ring position d ≡ record_sector a 0) → IsWholeAt ring position b → length a.images ≡ length b.images
 
 -- the sectors of a record
 abbrev pub count_of : LogRecord → ℕ
@@ -37,19 +37,19 @@ some_sector item = omega arith
 none : Sector
 none = record { bytes = [] }
 
-sector_bytes : (item : LogRecord) (i : ℕ) → (sector_at item i).bytes
+sector_bytes : (item : LogRecord) (i : ℕ) → (record_sector item i).bytes
     ≡ big_bytes 8 (item.position + i) ++ (big_bytes 8 item.position ++ take 496 (drop (496 * i) (payload item)))
-unfolding sector_at stamps
+unfolding record_sector stamps
 sector_bytes item i = append_assoc (big_bytes 8 (item.position + i)) (big_bytes 8 item.position) (take 496 (drop (496 * i) (payload item)))
 
 -- a record's sector has, behind its own position, the record's
-first_position : (item : LogRecord) (i : ℕ) → IsRecord item → field 8 8 (sector_at item i).bytes ≡ item.position
+first_position : (item : LogRecord) (i : ℕ) → IsRecord item → field 8 8 (record_sector item i).bytes ≡ item.position
 first_position item i form =
     let some = some_sector item in
     let small : item.position < 2 ^ 64 = omega (arith, form.positions) in
     let rest = take 496 (drop (496 * i) (payload item)) in
     let behind = big_bytes 8 item.position ++ rest in
-    number_at 8 8 item.position (sector_at item i).bytes small
+    number_at 8 8 item.position (record_sector item i).bytes small
     (ap (λ (l : List ℕ). take 8 (drop 8 l)) (sector_bytes item i)
     ∙ ap (λ (l : List ℕ). take 8 l) (drop_at (big_bytes 8 (item.position + i)) behind 8 refl) ∙ take_at (big_bytes 8 item.position) rest 8 refl)
 
@@ -95,7 +95,7 @@ old_sector laws old new item other i next partly logged away within =
               | inl same ↦ subst (λ (p : ℕ). SameAt old new p) at same
               | inr has ↦
                   let stamp = laws.stamped new other.position i none other logged.whole within in
-                  let is : at_place new (other.position + i) none ≡ sector_at item k = ap (λ (p : ℕ). at_place new p none) (sym at) ∙ has none in
+                  let is : at_place new (other.position + i) none ≡ record_sector item k = ap (λ (p : ℕ). at_place new p none) (sym at) ∙ has none in
                   let first : other.position ≡ item.position = sym stamp.1 ∙ ap (λ (s : Sector). field 8 8 s.bytes) is ∙ first_position item k next.form in
                   absurd (away first)
             ]
@@ -130,7 +130,7 @@ same_count laws old new item other next partly whole room =
       | inl same ↦ absurd (own_sectors laws old new item other 0 next partly whole room (some_sector other) same)
       | inr has ↦
           let zero_is : item.position + 0 ≡ item.position = omega arith in
-          let first : (d : Sector) → at_place new item.position d ≡ sector_at item 0 = λ d. ap (λ (p : ℕ). at_place new p d) (sym zero_is) ∙ has d in
+          let first : (d : Sector) → at_place new item.position d ≡ record_sector item 0 = λ d. ap (λ (p : ℕ). at_place new p d) (sym zero_is) ∙ has d in
           ap (λ (m : ℕ). sector_count m) (laws.counted new item.position item other next.form next.fits first whole)
     ]
 

@@ -2,7 +2,7 @@
 use Rattle.std.specs.Prelude.{◌≡◌, ◌⊎◌, ◌≤◌, ◌<◌, ◌+◌, ◌*◌, ℕ, List, length}
 use Rattle.life_bytes.specs.declared.sector.Sector.{Sector}
 use Rattle.log_record.specs.declared.record.LogRecord.{LogRecord}
-use Rattle.log_record.specs.Encoding.{IsRecord, FitsFields, sector_at, sector_count}
+use Rattle.log_record.specs.Encoding.{IsRecord, FitsFields, record_sector, sector_count}
 use Rattle.log_record.specs.Whole.{at_place}
 use Rattle.thin_image.specs.Replay.{IsBehind}
 
@@ -20,7 +20,7 @@ SameAt ring other position = (d : Sector) → at_place other position d ≡ at_p
 
 -- a ring has the sector of a record at its place
 abbrev pub HasSector : List Sector → LogRecord → ℕ → Type 0
-HasSector ring item i = (d : Sector) → at_place ring (item.position + i) d ≡ sector_at item i
+HasSector ring item i = (d : Sector) → at_place ring (item.position + i) d ≡ record_sector item i
 
 -- some part of a record was written over a ring: each sector in its places is the old one or the record's, and the others are the old ones
 pub record IsPartlyOver (old : List Sector) (item : LogRecord) (new : List Sector) : Type 0 where

@@ -13,7 +13,7 @@ use Rattle.disk_model.specs.Disk.{Cell, IsImage, HasOneImage, as_read, flushed, 
 use Rattle.disk_model.specs.DiskLaws.{IsTorn, length-torn, IsTorn-from_one_image, IsImage-partly_written, IsImage-as_read, IsImage-one, HasOneImage-flushed, as_read-flushed, length-as_read}
 use Rattle.log_record.specs.declared.image.Image.{Image}
 use Rattle.log_record.specs.declared.record.LogRecord.{LogRecord}
-use Rattle.log_record.specs.Encoding.{IsRecord, FitsFields, sector_count, encoded}
+use Rattle.log_record.specs.Encoding.{IsRecord, FitsFields, sector_count, encoded_record}
 use Rattle.thin_image.specs.Inodes.{AreInodes, IsUse, inode_image, with_used}
 use Rattle.thin_image.specs.NextRecord.{IsNextRecord, IsPartlyOver, SameAt, HasSector}
 use Rattle.thin_image.specs.Replay.{IsThinUpTo, IsHistoryUpTo, IsLog, IsBehind, homes, ring_part, overlaid, replayed, next_commit, put_home}
@@ -128,7 +128,7 @@ is_next first m cells w =
     }
 
 over : (first : Table) (m : Mount) (cells : List Cell) (image : List Sector) → Writes first m cells
-    → IsTorn (64 + m.place) (encoded (next_record m)) (as_read cells) image → IsPartlyOver (ring_part (as_read cells)) (next_record m) (ring_part image)
+    → IsTorn (64 + m.place) (encoded_record (next_record m)) (as_read cells) image → IsPartlyOver (ring_part (as_read cells)) (next_record m) (ring_part image)
 over first m cells image w torn =
     let count = images_count m in
     let counts : sector_count (length (next_record m).images) ≡ sector_count (length m.pending.items) = ap (λ (n : ℕ). sector_count n) count in
@@ -188,7 +188,7 @@ length-with_used in_use (place ∷ places) = length-with_used (set in_use place 
 
 -- an image that has the whole record represents the table after all changes
 pub stands_whole : (laws : ThinLaws) (first : Table) (m : Mount) (cells : List Cell) (image : List Sector) → Writes first m cells
-    → IsTorn (64 + m.place) (encoded (next_record m)) (as_read cells) image
+    → IsTorn (64 + m.place) (encoded_record (next_record m)) (as_read cells) image
     → ((i : ℕ) → i < sector_count (length (next_record m).images) → HasSector (ring_part image) (next_record m) i)
     → RepresentsAt image (After first m.story.entries.items (length (changes m.story.entries.items))) (m.story.base + length (changes m.story.entries.items))
     × IsBehind (ring_part image) ((next_record m).position + sector_count (length (next_record m).images))
@@ -223,7 +223,7 @@ stands_whole laws first m cells image w torn all =
       (
         records ++ item ∷ [],
         record {
-          size = omega (arith, thin.size, length-torn (64 + m.place) (encoded item) read image torn);
+          size = omega (arith, thin.size, length-torn (64 + m.place) (encoded_record item) read image torn);
           log = log.0;
           history = history;
           inodes = subst (λ (l : List Sector). AreInodes l) (sym now) made.0;
@@ -241,7 +241,7 @@ stands_whole laws first m cells image w torn all =
 
 -- an image that lacks some of it represents the table as before
 pub stands_torn : (laws : ThinLaws) (first : Table) (m : Mount) (cells : List Cell) (image : List Sector) (i : ℕ) → Writes first m cells
-    → IsTorn (64 + m.place) (encoded (next_record m)) (as_read cells) image
+    → IsTorn (64 + m.place) (encoded_record (next_record m)) (as_read cells) image
     → i < sector_count (length (next_record m).images) → SameAt (ring_part (as_read cells)) (ring_part image) ((next_record m).position + i)
     → RepresentsAt image (After first m.story.entries.items m.story.acknowledged) (m.story.base + m.story.acknowledged)
 stands_torn laws first m cells image i w torn within same =
@@ -256,7 +256,7 @@ stands_torn laws first m cells image i w torn within same =
     ap (λ (h : List Sector). replayed h records) (same_homes read image item m.place torn) in (
       records,
       record {
-        size = omega (arith, thin.size, length-torn (64 + m.place) (encoded item) read image torn);
+        size = omega (arith, thin.size, length-torn (64 + m.place) (encoded_record item) read image torn);
         log = laws.torn (ring_part read) (ring_part image) records item i thin.log (is_next first m cells w) part within same;
         history = subst (λ (n : ℕ). IsHistoryUpTo (2 ^ 64 - 1) n records) (sym part.size) thin.history;
         inodes = subst (λ (l : List Sector). AreInodes l) (sym now) thin.inodes;
@@ -267,7 +267,7 @@ stands_torn laws first m cells image i w torn within same =
 
 -- wherever the write was cut short, an image has all changes or the acknowledged ones
 pub stands_either : (laws : ThinLaws) (first : Table) (m : Mount) (cells : List Cell) (image : List Sector) → Writes first m cells
-    → IsTorn (64 + m.place) (encoded (next_record m)) (as_read cells) image → (n : ℕ) × IsPrefix first m.story image n
+    → IsTorn (64 + m.place) (encoded_record (next_record m)) (as_read cells) image → (n : ℕ) × IsPrefix first m.story image n
 stands_either laws first m cells image w torn =
     let part = over first m cells image w torn in
     let item = next_record m in
@@ -280,11 +280,11 @@ stands_either laws first m cells image w torn =
 
 -- a mount that is down after the write
 pub down_after : (laws : ThinLaws) (first : Table) (m : Mount) (cells after : List Cell) → Writes first m cells
-    → ((image : List Sector) → IsImage after image → IsImage (written (64 + m.place) (encoded (next_record m)) cells) image)
+    → ((image : List Sector) → IsImage after image → IsImage (written (64 + m.place) (encoded_record (next_record m)) cells) image)
     → IsDown first m after
 down_after laws first m cells after w left image is =
     stands_either laws first m cells image w
-    (IsTorn-from_one_image (64 + m.place) (encoded (next_record m)) cells image w.up.one (left image is))
+    (IsTorn-from_one_image (64 + m.place) (encoded_record (next_record m)) cells image w.up.one (left image is))
 
 -- ---- the steps
 
@@ -395,7 +395,7 @@ writes first m cells h none can some fits base few =
 -- a sync whose record could not be written, or not flushed
 holds_down : (laws : ThinLaws) (first : Table) (old new : Mount) (cells after : List Cell) (fault : ℕ) → Writes first old cells → GoesOn old.story new.story []
     → new.story.acknowledged ≡ old.story.acknowledged → new.changes ≡ old.changes → new.pending.items ≡ old.pending.items → new.down ≡ Some fault
-    → ((image : List Sector) → IsImage after image → IsImage (written (64 + old.place) (encoded (next_record old)) cells) image)
+    → ((image : List Sector) → IsImage after image → IsImage (written (64 + old.place) (encoded_record (next_record old)) cells) image)
     → Holds first new after
 holds_down laws first old new cells after fault w on acknowledged count pending down left =
     let h = w.holds in
@@ -417,12 +417,12 @@ holds_down laws first old new cells after fault w on acknowledged count pending 
 -- a sync whose record is on the disk
 holds_covered : (laws : ThinLaws) (first : Table) (old new : Mount) (cells after : List Cell) → Writes first old cells → GoesOn old.story new.story []
     → log_of new ≡ recorded (log_of old) → new.pending.items ≡ [] → new.down ≡ None → new.ring ≡ old.ring
-    → after ≡ flushed (written (64 + old.place) (encoded (next_record old)) cells) → Holds first new after
+    → after ≡ flushed (written (64 + old.place) (encoded_record (next_record old)) cells) → Holds first new after
 holds_covered laws first old new cells after w on log pending down ring is =
     let h = w.holds in
     let item = next_record old in
     let at = 64 + old.place in
-    let pieces = encoded item in
+    let pieces = encoded_record item in
     let disk = written at pieces cells in
     let image : List Sector = as_read after in
     let keys : changes new.story.entries.items ≡ changes old.story.entries.items = on.changes ∙ append-nil (changes old.story.entries.items) in
@@ -527,7 +527,7 @@ Holds-steps laws first old new cells cells_after before after entry reply.WriteF
     let log : log_of new ≡ log_of old = s.log.2 in
     holds_down laws first old new cells cells_after after w (goes_on old new before after entry reply.WriteFault s) (ap (λ (l : LogState). l.acknowledged) log)
     (ap (λ (l : LogState). l.changes) log) moves.1 s.cause.2
-    (λ image is. IsImage-partly_written (64 + old.place) (encoded (next_record old)) cells cells_after image moves.2 is)
+    (λ image is. IsImage-partly_written (64 + old.place) (encoded_record (next_record old)) cells cells_after image moves.2 is)
 Holds-steps laws first old new cells cells_after before after entry reply.FlushFault s moves h =
     let w = writes first old cells h s.cause.0 moves.0 (omega (arith, len_is old, s.log.0)) s.log.1 s.base_small s.few in
     let log : log_of new ≡ log_of old = s.log.2 in
@@ -551,9 +551,9 @@ can_along old other same can = record {
 
 -- the record to come, written at its place
 wrote_along : (old other : Mount) (before : List Cell) → next_record other ≡ next_record old → other.place ≡ old.place
-    → written (64 + old.place) (encoded (next_record old)) before ≡ written (64 + other.place) (encoded (next_record other)) before
+    → written (64 + old.place) (encoded_record (next_record old)) before ≡ written (64 + other.place) (encoded_record (next_record other)) before
 wrote_along old other before same place =
-    ap (λ (r : LogRecord). written (64 + old.place) (encoded r) before) (sym same) ∙ ap (λ (p : ℕ). written (64 + p) (encoded (next_record other)) before) (sym place)
+    ap (λ (r : LogRecord). written (64 + old.place) (encoded_record r) before) (sym same) ∙ ap (λ (p : ℕ). written (64 + p) (encoded_record (next_record other)) before) (sym place)
 
 records_along : (old new other other_new : Mount) (before after : List Cell) (n : ℕ) → next_record other ≡ next_record old → other.place ≡ old.place
     → Records old before new after n → Records other before other_new after n
@@ -575,8 +575,8 @@ Moves-along old new before after (reply.Covered count) m other other_new pending
 Moves-along old new before after reply.WriteFault m other other_new pending same place new_pending = (
   can_along old other same m.0,
   new_pending ∙ m.1 ∙ sym pending,
-  subst (λ (r : LogRecord). IsPartlyWritten (64 + other.place) (encoded r) before after) (sym same)
-      (subst (λ (p : ℕ). IsPartlyWritten (64 + p) (encoded (next_record old)) before after) (sym place) m.2),
+  subst (λ (r : LogRecord). IsPartlyWritten (64 + other.place) (encoded_record r) before after) (sym same)
+      (subst (λ (p : ℕ). IsPartlyWritten (64 + p) (encoded_record (next_record old)) before after) (sym place) m.2),
 )
 Moves-along old new before after reply.FlushFault m other other_new pending same place new_pending =
     (can_along old other same m.0, new_pending ∙ m.1 ∙ sym pending, m.2 ∙ wrote_along old other before same place)

@@ -4,7 +4,7 @@ use Rattle.std.proofs.Math.Dec.{eqb-suc-zero}
 use Rattle.std.proofs.lemmas.List.FromFn.{length-map-range_with_len}
 use Rattle.log_record.specs.declared.image.Image.{Image}
 use Rattle.log_record.specs.declared.record.LogRecord.{LogRecord}
-use Rattle.log_record.specs.Encoding.{sector_count, sector_at, encoded}
+use Rattle.log_record.specs.Encoding.{sector_count, record_sector, encoded_record}
 use Rattle.thin_image.specs.Inodes.{inode_image}
 
 -- the image of a place has that place for its home
@@ -12,10 +12,10 @@ pub homes-inode_image : (places : List ℕ) → map (λ (image : Image). image.h
 homes-inode_image [] = refl
 homes-inode_image (place ∷ places) = ap (λ (rest : List ℕ). place ∷ rest) (homes-inode_image places)
 
--- a record is encoded in as many sectors as its number of images asks for
-pub length-encoded : (item : LogRecord) → length (encoded item) ≡ sector_count (length item.images)
-unfolding encoded
-length-encoded item = length-map-range_with_len (sector_at item) 0 (sector_count (length item.images))
+-- a record is encoded_record in as many sectors as its number of images asks for
+pub length-encoded : (item : LogRecord) → length (encoded_record item) ≡ sector_count (length item.images)
+unfolding encoded_record
+length-encoded item = length-map-range_with_len (record_sector item) 0 (sector_count (length item.images))
 
 -- where sectors are needed, it is for the record of what is pending
 pub needed-some : (pending : ℕ) → 0 < (if pending == 0 then 0 else sector_count pending)

@@ -8,7 +8,7 @@ use Rattle.life_bytes.specs.declared.sector.Sector.{Sector}
 use Rattle.disk_model.specs.Disk.{Cell, as_read, written}
 use Rattle.disk_model.specs.DiskLaws.{IsTorn, length-torn, length-as_read, as_read-written}
 use Rattle.log_record.specs.declared.record.LogRecord.{LogRecord}
-use Rattle.log_record.specs.Encoding.{sector_at, sector_count, encoded}
+use Rattle.log_record.specs.Encoding.{record_sector, sector_count, encoded_record}
 use Rattle.log_record.specs.Whole.{at_place}
 use Rattle.thin_image.specs.NextRecord.{IsPartlyOver, SameAt, HasSector}
 use Rattle.thin_image.specs.Replay.{homes, ring_part}
@@ -74,27 +74,27 @@ at_ring image ring position k d size is lt =
     ap (λ (p : ℕ). p % length (ring_part image)) is ∙ ap (λ (n : ℕ). (ring + k) % n) (sym size) ∙ add-mod_left ring k ∙ mod-eq_of_lt lt in
     ap (λ (p : ℕ). get_or (ring_part image) p d) place ∙ get_or-drop 64 image k d
 
-get_or-encoded : (item : LogRecord) (i : ℕ) (d : Sector) → i < sector_count (length item.images) → get_or (encoded item) i d ≡ sector_at item i
-unfolding encoded
-get_or-encoded item i d lt = get_or-map-range_with_len (sector_at item) 0 (sector_count (length item.images)) i i d lt (omega arith)
+get_or-encoded : (item : LogRecord) (i : ℕ) (d : Sector) → i < sector_count (length item.images) → get_or (encoded_record item) i d ≡ record_sector item i
+unfolding encoded_record
+get_or-encoded item i d lt = get_or-map-range_with_len (record_sector item) 0 (sector_count (length item.images)) i i d lt (omega arith)
 
 -- the write of a record into the ring of an image leaves the rings of both so
 pub partly_over : (old new : List Sector) (item : LogRecord) (ring place : ℕ) → ring ≡ length (ring_part old) → 0 < ring → item.position ≡ ring + place
-    → place + sector_count (length item.images) ≤ ring → IsTorn (64 + place) (encoded item) old new → IsPartlyOver (ring_part old) item (ring_part new)
+    → place + sector_count (length item.images) ≤ ring → IsTorn (64 + place) (encoded_record item) old new → IsPartlyOver (ring_part old) item (ring_part new)
 partly_over old new item ring place size some position within torn =
-    let count : length (encoded item) ≡ sector_count (length item.images) = length-encoded item in
-    let lengths : length new ≡ length old = length-torn (64 + place) (encoded item) old new torn in
+    let count : length (encoded_record item) ≡ sector_count (length item.images) = length-encoded item in
+    let lengths : length new ≡ length old = length-torn (64 + place) (encoded_record item) old new torn in
     let parts : length (ring_part new) ≡ length (ring_part old) = length-drop 64 new ∙ ap (λ (n : ℕ). n - 64) lengths ∙ sym (length-drop 64 old) in
     let size_new : ring ≡ length (ring_part new) = size ∙ sym parts in
     let behind_homes : length (ring_part old) ≡ length old - 64 = length-drop 64 old in
-    let inside : 64 + place + length (encoded item) ≤ length old = omega arith in
+    let inside : 64 + place + length (encoded_record item) ≤ length old = omega arith in
     record {
       size = parts;
       inside = λ i lt.
           let k : ℕ = place + i in
           let at : item.position + i ≡ ring + k = omega arith in
           let low : k < ring = omega arith in
-          elim (torn_inside (64 + place) (encoded item) old new torn inside i (64 + k) (omega arith) (omega arith)) [
+          elim (torn_inside (64 + place) (encoded_record item) old new torn inside i (64 + k) (omega arith) (omega arith)) [
             | inl same ↦ inl (λ d. at_ring new ring (item.position + i) k d size_new at low ∙ same d ∙ sym (at_ring old ring (item.position + i) k d size at low))
             | inr has ↦ inr (λ d. at_ring new ring (item.position + i) k d size_new at low ∙ has d ∙ get_or-encoded item i d lt)
           ];
@@ -102,12 +102,12 @@ partly_over old new item ring place size some position within torn =
           let k : ℕ = p - ring in
           let at : p ≡ ring + k = omega arith in
           let low : k < ring = omega arith in
-          at_ring new ring p k d size_new at low ∙ torn_before (64 + place) (encoded item) old new torn (64 + k) d (omega arith) ∙ sym (at_ring old ring p k d size at low);
+          at_ring new ring p k d size_new at low ∙ torn_before (64 + place) (encoded_record item) old new torn (64 + k) d (omega arith) ∙ sym (at_ring old ring p k d size at low);
       behind = λ p past below d.
           let k : ℕ = p - ring in
           let at : p ≡ ring + k = omega arith in
           let low : k < ring = omega arith in
-          at_ring new ring p k d size_new at low ∙ torn_behind (64 + place) (encoded item) old new torn (64 + k) d (omega arith) ∙ sym (at_ring old ring p k d size at low);
+          at_ring new ring p k d size_new at low ∙ torn_behind (64 + place) (encoded_record item) old new torn (64 + k) d (omega arith) ∙ sym (at_ring old ring p k d size at low);
     }
 
 same_take : (n : ℕ) (old new : List Sector) → length new ≡ length old → ((j : ℕ) (d : Sector) → j < n → get_or new j d ≡ get_or old j d) → take n new ≡ take n old
@@ -120,15 +120,15 @@ same_take (suc n) (sector ∷ old) (now ∷ new) size same =
     ap (λ (s : Sector). s ∷ take n new) first ∙ ap (λ (l : List Sector). sector ∷ l) (same_take n old new (omega arith) (λ j d lt. same (suc j) d (omega arith)))
 
 -- and leaves the home sectors
-pub same_homes : (old new : List Sector) (item : LogRecord) (place : ℕ) → IsTorn (64 + place) (encoded item) old new → homes new ≡ homes old
+pub same_homes : (old new : List Sector) (item : LogRecord) (place : ℕ) → IsTorn (64 + place) (encoded_record item) old new → homes new ≡ homes old
 same_homes old new item place torn =
-    same_take 64 old new (length-torn (64 + place) (encoded item) old new torn)
-    (λ j d lt. torn_before (64 + place) (encoded item) old new torn j d (omega arith))
+    same_take 64 old new (length-torn (64 + place) (encoded_record item) old new torn)
+    (λ j d lt. torn_before (64 + place) (encoded_record item) old new torn j d (omega arith))
 
 -- where each of its sectors was written, the ring has them
 pub has_sectors : (new : List Sector) (item : LogRecord) (ring place : ℕ) → ring ≡ length (ring_part new) → item.position ≡ ring + place
     → place + sector_count (length item.images) ≤ ring
-    → ((i : ℕ) (d : Sector) → i < sector_count (length item.images) → get_or new (64 + place + i) d ≡ get_or (encoded item) i d)
+    → ((i : ℕ) (d : Sector) → i < sector_count (length item.images) → get_or new (64 + place + i) d ≡ get_or (encoded_record item) i d)
     → (i : ℕ) → i < sector_count (length item.images) → HasSector (ring_part new) item i
 has_sectors new item ring place size position within written i lt d =
     let at : item.position + i ≡ ring + (place + i) = omega arith in

@@ -3,7 +3,7 @@ use Rattle.std.specs.Prelude.{◌≡◌, ◌≤◌, ◌<◌, ◌+◌, ◌++◌, 
 use Rattle.std.specs.List.{All}
 use Rattle.life_bytes.specs.declared.sector.Sector.{Sector}
 use Rattle.disk_model.specs.Disk.{Cell, IsImage, HasOneImage, as_read, flushed, written, IsPartlyWritten}
-use Rattle.log_record.specs.Encoding.{IsRecord, FitsFields, encoded}
+use Rattle.log_record.specs.Encoding.{IsRecord, FitsFields, encoded_record}
 use Rattle.thin_image.specs.Replay.{IsBehind, ring_part}
 use Rattle.thin_run.specs.declared.mount.Mount.{Mount}
 use Rattle.thin_run.specs.declared.types.Reply.{Reply}
@@ -13,7 +13,7 @@ use Rattle.thin_run.specs.Mount.{next_record}
 use Rattle.thin_run.specs.Table.{Table, key_at}
 use Rattle.thin_run.specs.CrashSafe.{IsPrefix}
 
--- the record of what is pending can be encoded
+-- the record of what is pending can be encoded_record
 pub record CanEncode (m : Mount) : Type 0 where
   pub form : IsRecord (next_record m)
   pub fits : FitsFields (next_record m)
@@ -22,7 +22,7 @@ pub record CanEncode (m : Mount) : Type 0 where
 -- and flushes before it answers that it is covered.
 abbrev pub Records : Mount → List Cell → Mount → List Cell → ℕ → Type 0
 Records old before new after zero = after ≡ before
-Records old before new after (suc n) = CanEncode old × (after ≡ flushed (written (64 + old.place) (encoded (next_record old)) before))
+Records old before new after (suc n) = CanEncode old × (after ≡ flushed (written (64 + old.place) (encoded_record (next_record old)) before))
 
 abbrev pub Moves : Mount → List Cell → Reply → Mount → List Cell → Type 0
 Moves old before (reply.Made key) new after =
@@ -32,10 +32,10 @@ Moves old before (reply.Covered count) new after =
     (new.pending.items ≡ []) × Records old before new after (length old.pending.items)
 Moves old before reply.WriteFault new after =
     CanEncode old × (new.pending.items ≡ old.pending.items)
-    × IsPartlyWritten (64 + old.place) (encoded (next_record old)) before after
+    × IsPartlyWritten (64 + old.place) (encoded_record (next_record old)) before after
 Moves old before reply.FlushFault new after =
     CanEncode old × (new.pending.items ≡ old.pending.items)
-    × (after ≡ written (64 + old.place) (encoded (next_record old)) before)
+    × (after ≡ written (64 + old.place) (encoded_record (next_record old)) before)
 Moves old before reply.LogEnd new after = (new.pending.items ≡ old.pending.items) × (after ≡ before)
 Moves old before (reply.Down fault) new after = (new.pending.items ≡ old.pending.items) × (after ≡ before)
 

@@ -63,7 +63,7 @@ pub(crate) struct Mount {
 impl Mount {
     ghost use Rattle.std.specs.Prelude.{◌≡◌, ◌<◌, ◌≤◌, ◌+◌, ◌∷◌, [], ◌++◌, ℕ, List, None, IsTrue, IfOk, OnOk, OnErr, length, vec_len};
     ghost use Rattle.disk_model.specs.Disk.{Cell};
-    ghost use Rattle.log_record.specs.Encoding.{IsRecord, FitsFields, sector_count, encoded};
+    ghost use Rattle.log_record.specs.Encoding.{IsRecord, FitsFields, sector_count, encoded_record};
     ghost use Rattle.thin_run.specs.Standing.{CanEncode, Holds, Moves};
     ghost use Rattle.thin_run.specs.Table.{Table};
     ghost use Rattle.thin_run.specs.declared.types.Entry.{Entry};
@@ -163,7 +163,7 @@ impl Mount {
 
     /// The sectors of the record of all that is pending.
     fn encode_record(&self, alloc: Global) -> Result<Vec<Sector>, NoMemory>
-        ensures encoded { IfOk result (λ sectors. sectors.items ≡ encoded (next_record self.now)) }
+        ensures encoded_record { IfOk result (λ sectors. sectors.items ≡ encoded_record (next_record self.now)) }
         ensures count { IfOk result (λ sectors. length sectors.items ≡ sector_count (vec_len self.now.pending)) }
         ensures can { OnOk result (CanEncode self.now) }
     {

@@ -4,19 +4,20 @@ use Rattle.std.proofs.lemmas.Bool.{cases_order}
 use Rattle.life_bytes.specs.declared.sector.Sector.{Sector}
 use Rattle.life_bytes.specs.Sectors.{zero_sector}
 use Rattle.geometry.specs.declared.shape.Geometry.{Geometry}
+use Rattle.geometry.specs.Places.{anchor_of}
 use Rattle.sound_image.specs.Damage.{Rule, header, tree, core, fork, blocks, bitmap, pointers, lists}
-use Rattle.sound_image.specs.Damage.{number_of as number_in_groups}
-use Rattle.sound_image.specs.Damage.{Holds as HoldsInGroups}
-use Rattle.sound_image.specs.Damage.{Breaks as BreaksInGroups}
-use Rattle.sound_image.specs.Damage.{FirstDamage as FirstDamageOfGroups}
-use Rattle.sound_image.specs.Damage.{IsSound as GroupsAreSound}
+use Rattle.sound_image.specs.Damage.{groups_rule_number as number_in_groups}
+use Rattle.sound_image.specs.Damage.{GroupsHold as HoldsInGroups}
+use Rattle.sound_image.specs.Damage.{GroupsBreak as BreaksInGroups}
+use Rattle.sound_image.specs.Damage.{FirstGroupsDamage as FirstDamageOfGroups}
+use Rattle.sound_image.specs.Damage.{AreGroupsSound as GroupsAreSound}
 use Rattle.sound_image.specs.Superblocks.{HasSuperblock, IsLongEnough}
 use Rattle.log_record.specs.declared.record.LogRecord.{LogRecord}
 use Rattle.log_image.specs.Anchor.{HasAnchor}
-use Rattle.log_image.specs.Log.{Log, HasLog, IsLogTo, end_of}
+use Rattle.log_image.specs.Log.{Log, HasLog, IsLogTo, record_end}
 use Rattle.log_image.specs.Damage.{AnchorBreaks, LogBreaks, LogBreaksFirst, EndsAt, IsLogDamage}
-use Rattle.whole_image.specs.Front.{anchor_of, ring_of, IsAnchorRight, IsLogRight}
-use Rattle.whole_image.specs.Damage.{ImageRule, superblock, size, anchor, log, of_groups, number_of, Tells, groups_of, Holds, Breaks, FirstDamage, IsSound}
+use Rattle.whole_image.specs.Front.{ring_of, IsAnchorRight, IsLogRight}
+use Rattle.whole_image.specs.Damage.{ImageRule, superblock, size, anchor, log, of_groups, image_rule_number, HasFrontAndLog, groups_of, ImageHolds, ImageBreaks, FirstDamage, IsSound}
 use Rattle.whole_image.proofs.Unique.{Lower, one_geometry, one_said, one_anchor, one_last}
 
 -- the laws of the groups' first damage
@@ -29,7 +30,7 @@ one_end : Lower → (ring : List Sector) (front position next end : ℕ) (said :
 one_end lower ring front position next end said has at =
     elim has.records [
       | inl to ↦ elim at [
-        | inl behind ↦ behind.2 ∙ ap end_of (one_last lower ring position behind.0 to.0 behind.1 to.1) ∙ sym to.2.end.0
+        | inl behind ↦ behind.2 ∙ ap record_end (one_last lower ring position behind.0 to.0 behind.1 to.1) ∙ sym to.2.end.0
         | inr none ↦ let low = none.0 to.0 to.1.whole in let high = to.1.counts in absurd (omega arith)
       ]
       | inr empty ↦ elim at [
@@ -63,7 +64,7 @@ five pointers = omega arith
 five lists = omega arith
 
 -- of the rules in front of those of the groups
-unbroken : Lower → (image : List Sector) (rule : ImageRule) (s : ℕ) → number_of rule < 5 → Holds image rule → Breaks image rule s → ⊥
+unbroken : Lower → (image : List Sector) (rule : ImageRule) (s : ℕ) → image_rule_number rule < 5 → ImageHolds image rule → ImageBreaks image rule s → ⊥
 unbroken lower image superblock s few h b = b.1 h
 unbroken lower image size s few h b = b.3 (h b.0 b.1)
 unbroken lower image anchor s few h b = let right = h b.0 b.1 in b.2.1 right.0 right.1 right.2
@@ -71,16 +72,16 @@ unbroken lower image log s few h b = log_unbroken lower b.0 image b.1 b.2 s (h b
 unbroken lower image (of_groups rule) s few h b = let low = five rule in absurd (omega arith)
 
 -- What an image tells is one, so a break of a rule of the groups is a break of what it tells.
-moved : Lower → (g : Geometry) (image : List Sector) (said : Log) (rule : Rule) (s : ℕ) → Tells g image said → Breaks image (of_groups rule) s → BreaksInGroups g (groups_of g image said) rule s
+moved : Lower → (g : Geometry) (image : List Sector) (said : Log) (rule : Rule) (s : ℕ) → HasFrontAndLog g image said → ImageBreaks image (of_groups rule) s → BreaksInGroups g (groups_of g image said) rule s
 moved lower g image said rule s tells b =
     let same : b.0 ≡ g = one_geometry lower b.0 g image b.2.superblock tells.superblock in
-    let there : Tells g image b.1 = subst (λ (x : Geometry). Tells x image b.1) same b.2 in
+    let there : HasFrontAndLog g image b.1 = subst (λ (x : Geometry). HasFrontAndLog x image b.1) same b.2 in
     let log_same : b.1 ≡ said = one_said lower g image b.1 said there tells in
     subst (λ (x : Log). BreaksInGroups g (groups_of g image x) rule s) log_same
     (subst (λ (x : Geometry). BreaksInGroups x (groups_of x image b.1) rule s) same b.3)
 
 -- a first damage among the rules of the groups, as one of the replayed groups
-lowered : Lower → (g : Geometry) (image : List Sector) (said : Log) (rule : Rule) (s : ℕ) → Tells g image said → FirstDamage image (of_groups rule) s
+lowered : Lower → (g : Geometry) (image : List Sector) (said : Log) (rule : Rule) (s : ℕ) → HasFrontAndLog g image said → FirstDamage image (of_groups rule) s
     → FirstDamageOfGroups g (groups_of g image said) rule s
 lowered lower g image said rule s tells x =
     record {
@@ -89,7 +90,7 @@ lowered lower g image said rule s tells x =
       least = λ other b. x.least other (g, said, tells, b);
     }
 
-unpacked : (image : List Sector) (rule : Rule) (s : ℕ) → FirstDamage image (of_groups rule) s → (g : Geometry) × (said : Log) × Tells g image said
+unpacked : (image : List Sector) (rule : Rule) (s : ℕ) → FirstDamage image (of_groups rule) s → (g : Geometry) × (said : Log) × HasFrontAndLog g image said
 unpacked image rule s x = (x.broken.0, x.broken.1, x.broken.2)
 
 one_of_groups : Lower → OfGroups → (image : List Sector) (a b : Rule) (s t : ℕ) → FirstDamage image (of_groups a) s → FirstDamage image (of_groups b) t → (of_groups a ≡ of_groups b) × (s ≡ t)
@@ -98,7 +99,7 @@ one_of_groups lower groups image a b s t x y =
     let both = groups.one at.0 (groups_of at.0 image at.1) a b s t (lowered lower at.0 image at.1 a s at.2 x) (lowered lower at.0 image at.1 b t at.2 y) in
     (ap of_groups both.0, both.1)
 
-same_front : (a b : ImageRule) → number_of a < 5 → number_of a ≡ number_of b → a ≡ b
+same_front : (a b : ImageRule) → image_rule_number a < 5 → image_rule_number a ≡ image_rule_number b → a ≡ b
 same_front superblock superblock few e = refl
 same_front superblock size few e = absurd (omega arith)
 same_front superblock anchor few e = absurd (omega arith)
@@ -122,18 +123,18 @@ least_sector : (image : List Sector) (a : ImageRule) (s t : ℕ) → FirstDamage
 least_sector image a s t x y = let low = x.least t y.broken in let high = y.least s x.broken in omega arith
 
 -- where one of the two is in front
-one_in_front : Lower → (image : List Sector) (a b : ImageRule) (s t : ℕ) → (number_of a < 5) ⊎ (number_of b < 5) → FirstDamage image a s → FirstDamage image b t → (a ≡ b) × (s ≡ t)
+one_in_front : Lower → (image : List Sector) (a b : ImageRule) (s t : ℕ) → (image_rule_number a < 5) ⊎ (image_rule_number b < 5) → FirstDamage image a s → FirstDamage image b t → (a ≡ b) × (s ≡ t)
 one_in_front lower image a b s t front x y =
-    elim (cases_order (number_of a) (number_of b)) [
+    elim (cases_order (image_rule_number a) (image_rule_number b)) [
       | inl e ↦
-          let few : number_of a < 5 = elim front [ inl f ↦ f | inr f ↦ omega arith ] in
+          let few : image_rule_number a < 5 = elim front [ inl f ↦ f | inr f ↦ omega arith ] in
           let same : a ≡ b = same_front a b few e in
           (same, least_sector image b s t (subst (λ (r : ImageRule). FirstDamage image r s) same x) y)
       | inr (inl lt) ↦
-          let few : number_of a < 5 = elim front [ inl f ↦ f | inr f ↦ omega arith ] in
+          let few : image_rule_number a < 5 = elim front [ inl f ↦ f | inr f ↦ omega arith ] in
           absurd (unbroken lower image a s few (y.before a lt) x.broken)
       | inr (inr gt) ↦
-          let few : number_of b < 5 = elim front [ inl f ↦ omega arith | inr f ↦ f ] in
+          let few : image_rule_number b < 5 = elim front [ inl f ↦ omega arith | inr f ↦ f ] in
           absurd (unbroken lower image b t few (x.before b gt) y.broken)
     ]
 
@@ -160,7 +161,7 @@ none lower groups image (of_groups a) s sound x =
 -- ---- what an image tells
 
 -- the rules in front hold
-pub front_holds : Lower → (g : Geometry) (image : List Sector) (said : Log) (rule : ImageRule) → number_of rule < 5 → Tells g image said → Holds image rule
+pub front_holds : Lower → (g : Geometry) (image : List Sector) (said : Log) (rule : ImageRule) → image_rule_number rule < 5 → HasFrontAndLog g image said → ImageHolds image rule
 front_holds lower g image said superblock few tells = (g, tells.superblock)
 front_holds lower g image said size few tells = λ other has.
     let same : g ≡ other = one_geometry lower g other image tells.superblock has in
@@ -180,23 +181,23 @@ front_holds lower g image said log few tells = λ other position next has at.
 front_holds lower g image said (of_groups rule) few tells = let low = five rule in absurd (omega arith)
 
 -- what holds of the groups of what the image tells
-pub groups_hold : Lower → (g : Geometry) (image : List Sector) (said : Log) (rule : Rule) → Tells g image said → HoldsInGroups g (groups_of g image said) rule → Holds image (of_groups rule)
+pub groups_hold : Lower → (g : Geometry) (image : List Sector) (said : Log) (rule : Rule) → HasFrontAndLog g image said → HoldsInGroups g (groups_of g image said) rule → ImageHolds image (of_groups rule)
 groups_hold lower g image said rule tells h other heard there =
     let same : g ≡ other = one_geometry lower g other image tells.superblock there.superblock in
-    let here : Tells other image said = subst (λ (x : Geometry). Tells x image said) same tells in
+    let here : HasFrontAndLog other image said = subst (λ (x : Geometry). HasFrontAndLog x image said) same tells in
     let log_same : said ≡ heard = one_said lower other image said heard here there in
     subst (λ (x : Log). HoldsInGroups other (groups_of other image x) rule) log_same
     (subst (λ (x : Geometry). HoldsInGroups x (groups_of x image said) rule) same h)
 
-raised_before : Lower → (g : Geometry) (image : List Sector) (said : Log) (rule : Rule) (s : ℕ) → Tells g image said → FirstDamageOfGroups g (groups_of g image said) rule s
-    → (other : ImageRule) → number_of other < number_in_groups rule → Holds image other
+raised_before : Lower → (g : Geometry) (image : List Sector) (said : Log) (rule : Rule) (s : ℕ) → HasFrontAndLog g image said → FirstDamageOfGroups g (groups_of g image said) rule s
+    → (other : ImageRule) → image_rule_number other < number_in_groups rule → ImageHolds image other
 raised_before lower g image said rule s tells x (of_groups other) lt = groups_hold lower g image said other tells (x.before other lt)
 raised_before lower g image said rule s tells x superblock lt = front_holds lower g image said superblock (omega arith) tells
 raised_before lower g image said rule s tells x size lt = front_holds lower g image said size (omega arith) tells
 raised_before lower g image said rule s tells x anchor lt = front_holds lower g image said anchor (omega arith) tells
 raised_before lower g image said rule s tells x log lt = front_holds lower g image said log (omega arith) tells
 
-pub raised : Lower → (g : Geometry) (image : List Sector) (said : Log) (rule : Rule) (s : ℕ) → Tells g image said → FirstDamageOfGroups g (groups_of g image said) rule s
+pub raised : Lower → (g : Geometry) (image : List Sector) (said : Log) (rule : Rule) (s : ℕ) → HasFrontAndLog g image said → FirstDamageOfGroups g (groups_of g image said) rule s
     → FirstDamage image (of_groups rule) s
 raised lower g image said rule s tells x =
     record {
@@ -207,7 +208,7 @@ raised lower g image said rule s tells x =
 
 -- ---- the first damage of the anchor and the log
 
-anchor_before : (g : Geometry) (image : List Sector) → Lower → HasSuperblock g image → IsLongEnough g image → (other : ImageRule) → number_of other < 3 → Holds image other
+anchor_before : (g : Geometry) (image : List Sector) → Lower → HasSuperblock g image → IsLongEnough g image → (other : ImageRule) → image_rule_number other < 3 → ImageHolds image other
 anchor_before g image lower has enough superblock lt = (g, has)
 anchor_before g image lower has enough size lt = λ other there.
     subst (λ (x : Geometry). IsLongEnough x image) (one_geometry lower g other image has there) enough
@@ -216,7 +217,7 @@ anchor_before g image lower has enough log lt = absurd (omega arith)
 anchor_before g image lower has enough (of_groups rule) lt = let low = five rule in absurd (omega arith)
 
 log_before : (g : Geometry) (image : List Sector) (position next : ℕ) → Lower → HasSuperblock g image → IsLongEnough g image → HasAnchor image (anchor_of g) g.ring position next
-    → (other : ImageRule) → number_of other < 4 → Holds image other
+    → (other : ImageRule) → image_rule_number other < 4 → ImageHolds image other
 log_before g image position next lower has enough at superblock lt = anchor_before g image lower has enough superblock (omega arith)
 log_before g image position next lower has enough at size lt = anchor_before g image lower has enough size (omega arith)
 log_before g image position next lower has enough at anchor lt = λ other there.
@@ -234,7 +235,7 @@ anchor_damage lower g image s has enough breaks =
           let here = b.2.0 in let there = breaks.0 in omega arith;
     }
 
-log_moved : Lower → (g : Geometry) (image : List Sector) (position next s : ℕ) → HasSuperblock g image → HasAnchor image (anchor_of g) g.ring position next → Breaks image log s
+log_moved : Lower → (g : Geometry) (image : List Sector) (position next s : ℕ) → HasSuperblock g image → HasAnchor image (anchor_of g) g.ring position next → ImageBreaks image log s
     → LogBreaks (ring_of g image) (anchor_of g) position s
 log_moved lower g image position next s has at b =
     let same : b.0 ≡ g = one_geometry lower b.0 g image b.3 has in
@@ -253,6 +254,6 @@ log_damage lower g image position next s has enough at breaks =
     }
 
 pub of_log : Lower → (g : Geometry) (image : List Sector) (rule s : ℕ) → HasSuperblock g image → IsLongEnough g image → IsLogDamage image (anchor_of g) g.ring rule s
-    → (known : ImageRule) × (rule ≡ number_of known) × FirstDamage image known s
+    → (known : ImageRule) × (rule ≡ image_rule_number known) × FirstDamage image known s
 of_log lower g image rule s has enough (inl (number, breaks)) = (anchor, number, anchor_damage lower g image s has enough breaks)
 of_log lower g image rule s has enough (inr (number, (position, next, at, breaks))) = (log, number, log_damage lower g image position next s has enough at breaks)

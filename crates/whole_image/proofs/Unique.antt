@@ -3,16 +3,16 @@ use Rattle.std.proofs.Common.{◌≡◌, ℕ, ◌^◌, ◌<◌, List, refl, sym,
 use Rattle.std.proofs.lemmas.Option.{same_Some}
 use Rattle.life_bytes.specs.declared.sector.Sector.{Sector}
 use Rattle.life_bytes.specs.Fields.{field}
-use Rattle.life_bytes.specs.TableLaws.{sealed_number, AreRows}
+use Rattle.life_bytes.specs.TableLaws.{sealed_number, AreFields}
 use Rattle.geometry.specs.declared.shape.Geometry.{Geometry}
 use Rattle.geometry.specs.Superblock.{SuperblocksTell}
+use Rattle.geometry.specs.Places.{anchor_of}
 use Rattle.sound_image.specs.Superblocks.{HasSuperblock}
 use Rattle.log_record.specs.declared.record.LogRecord.{LogRecord}
 use Rattle.log_record.specs.Whole.{IsWholeAt}
 use Rattle.log_image.specs.Anchor.{HasAnchor, anchor_rows, anchor_sector}
 use Rattle.log_image.specs.Log.{IsLast, IsLog, Log}
-use Rattle.whole_image.specs.Front.{anchor_of}
-use Rattle.whole_image.specs.Damage.{Tells}
+use Rattle.whole_image.specs.Damage.{HasFrontAndLog}
 
 -- the laws below, as they are called: of superblocks, of logs, of whole records
 pub record Lower : Type 0 where
@@ -23,10 +23,10 @@ pub record Lower : Type 0 where
 pub one_geometry : Lower → (a b : Geometry) (image : List Sector) → HasSuperblock a image → HasSuperblock b image → a ≡ b
 one_geometry lower a b image p q = lower.tell a b p.shape q.shape (sym p.encoded ∙ q.encoded)
 
-pub one_said : Lower → (g : Geometry) (image : List Sector) (a b : Log) → Tells g image a → Tells g image b → a ≡ b
+pub one_said : Lower → (g : Geometry) (image : List Sector) (a b : Log) → HasFrontAndLog g image a → HasFrontAndLog g image b → a ≡ b
 one_said lower g image a b p q = lower.one_log image (anchor_of g) g.ring a b p.log q.log
 
-anchor_is_rows : (position next : ℕ) → AreRows 512 (anchor_rows position next)
+anchor_is_rows : (position next : ℕ) → AreFields 512 (anchor_rows position next)
 anchor_is_rows position next = ((omega arith, refl), ((omega arith, refl), ((omega arith, refl), tt)))
 
 anchor_position : (position next : ℕ) → position < 2 ^ 64 → field 8 8 (anchor_sector position next).bytes ≡ position

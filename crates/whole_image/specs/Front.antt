@@ -3,14 +3,10 @@
 use Rattle.std.specs.Prelude.{◌*◌, ℕ, List}
 use Rattle.life_bytes.specs.declared.sector.Sector.{Sector}
 use Rattle.geometry.specs.declared.shape.Geometry.{Geometry}
-use Rattle.geometry.specs.Places.{group_sectors}
+use Rattle.geometry.specs.Places.{group_sectors, anchor_of}
 use Rattle.sound_image.specs.Superblocks.{HasSuperblock}
 use Rattle.log_image.specs.Anchor.{HasAnchor}
 use Rattle.log_image.specs.Log.{Log, HasLog, ring_part}
-
--- the sector of the anchor, which is also the number of the groups' sectors
-abbrev pub anchor_of : Geometry → ℕ
-anchor_of g = g.groups * group_sectors g
 
 -- the ring of an image
 abbrev pub ring_of : Geometry → List Sector → List Sector

@@ -1,6 +1,6 @@
 use Rattle.std.proofs.Common.{◌<◌, ◌++◌, ℕ, List, length, slice_index, sym, ap, subst, ◌∙◌}
 use Rattle.life_limits.specs.declared.TheConstants.{NO_INODE}
-use Rattle.agi_buckets.specs.Buckets.{list_of}
+use Rattle.agi_buckets.specs.Buckets.{list_at}
 use Rattle.agi_buckets.proofs.Steps.{steps}
 use Rattle.agi_buckets.proofs.Walked.{walk_of, same_walks, walk_moved, walk_next, walk_smaller, walk_ends, met_more, met_all}
 use Rattle.agi_buckets.proofs.buckets.list.Goals as goal
@@ -10,10 +10,10 @@ loop-at-init g c =
     let p = g.N.Nexts.pointers c.args.n.now in
     let given = c.requires.lists in
     let walk = walk_of p given.0 c.args.bucket given.1 c.requires.bucket in (
-      list_of given.0 c.args.bucket,
-      walk_moved p (slice_index p.heads c.args.bucket) c.head-at.result (list_of given.0 c.args.bucket) (sym c.head-at.ensures) walk,
-      λ members whole. same_walks p (slice_index p.heads c.args.bucket) members (list_of given.0 c.args.bucket) whole walk
-          ∙ ap (λ (met : List ℕ). met ++ list_of given.0 c.args.bucket) (sym c.new-members.ensures.items),
+      list_at given.0 c.args.bucket,
+      walk_moved p (slice_index p.heads c.args.bucket) c.head-at.result (list_at given.0 c.args.bucket) (sym c.head-at.ensures) walk,
+      λ members whole. same_walks p (slice_index p.heads c.args.bucket) members (list_at given.0 c.args.bucket) whole walk
+          ∙ ap (λ (met : List ℕ). met ++ list_at given.0 c.args.bucket) (sym c.new-members.ensures.items),
     )
 
 pub next-at-requires : goal.next-at-requires
@@ -44,5 +44,5 @@ pub returns : goal.returns
 returns g c = λ lists are.
     let p = g.N.Nexts.pointers c.args.n.now in
     let inv = c.loop-at.invariant in
-    let members = list_of lists c.args.bucket in
+    let members = list_at lists c.args.bucket in
     sym (met_all members c.loop-at.members.items inv.0 (inv.2 members (walk_of p lists c.args.bucket are c.requires.bucket)) (walk_ends p c.loop-at.at inv.0 inv.1 c.loop-at-test.false))

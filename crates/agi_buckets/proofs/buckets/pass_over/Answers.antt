@@ -1,6 +1,6 @@
 use Rattle.std.proofs.Common.{ℕ, sym, subst, ◌∙◌}
 use Rattle.agi_buckets.specs.Buckets.{IsPointer, SetsNext, SetsHead, bucket_of}
-use Rattle.agi_buckets.specs.Walks.{IsFound}
+use Rattle.agi_buckets.specs.Walks.{PointsAtMember}
 use Rattle.agi_buckets.proofs.Linked.{bucket_small, next_is_pointer, passes_by_head, passes_by_next}
 use Rattle.agi_buckets.proofs.buckets.pass_over.Goals as goal
 
@@ -28,5 +28,5 @@ returns-else-first-agino-clause-passed g c = λ lists are.
     let p = g.N.Nexts.pointers c.args.n.now in
     let q = g.N.Nexts.pointers c.set_next.new.self in
     passes_by_next p q c.args.agino c.find_before-before.result lists are (λ e. c.if-first-agino.false (c.head-first.ensures ∙ e))
-    (subst (λ (f : ℕ). IsFound p f c.args.agino c.find_before-before.result) c.head-first.ensures c.find_before-before.ensures)
+    (subst (λ (f : ℕ). PointsAtMember p f c.args.agino c.find_before-before.result) c.head-first.ensures c.find_before-before.ensures)
     (subst (λ (f : ℕ). SetsNext p q c.find_before-before.result f) c.next-behind.ensures c.set_next.ensures.set)

@@ -1,7 +1,7 @@
 use Rattle.std.proofs.Common.{[], sym, ◌∙◌, arith}
 use Rattle.std.proofs.lemmas.List.{ext_get_or}
 use Rattle.life_limits.specs.declared.TheConstants.{NO_INODE}
-use Rattle.agi_buckets.specs.Buckets.{list_of}
+use Rattle.agi_buckets.specs.Buckets.{list_at}
 use Rattle.agi_buckets.proofs.Lists.{count_distinct}
 use Rattle.agi_buckets.proofs.Chains.{chain_distinct}
 use Rattle.agi_buckets.proofs.Linked.{one_list, no_mark_in, none_linked}
@@ -12,7 +12,7 @@ returns-clause-one c = λ p first second one two. ext_get_or [] first second (on
 
 pub returns-clause-once : goal.returns-clause-once
 returns-clause-once c = λ p lists bucket agino are below.
-    count_distinct (list_of lists bucket) agino (chain_distinct p.next _ NO_INODE (list_of lists bucket) (no_mark_in p lists bucket are below) (are.each bucket below).chain)
+    count_distinct (list_at lists bucket) agino (chain_distinct p.next _ NO_INODE (list_at lists bucket) (no_mark_in p lists bucket are below) (are.each bucket below).chain)
 
 pub returns-clause-empty : goal.returns-clause-empty
 returns-clause-empty c = λ p heads no_mark. none_linked p heads no_mark

@@ -1,8 +1,8 @@
 use Rattle.std.proofs.Common.{◌≡◌, ◌∙◌, ◌∷◌, [], ℕ, List, sym, ap, subst}
+use Rattle.geometry.specs.Places.{anchor_of}
 use Rattle.life_bytes.specs.declared.sector.Sector.{Sector}
 use Rattle.disk_model.specs.Disk.{as_read}
 use Rattle.log_image.specs.Anchor.{anchor_sector}
-use Rattle.whole_image.specs.Front.{anchor_of}
 use Rattle.image_make.specs.Empty.{AwaitsSuperblock}
 use Rattle.image_make.specs.Outcome.{IsBlank}
 use Rattle.image_make.proofs.Leaving.{leaves_both}

@@ -7,7 +7,7 @@ use Rattle.sound_image.specs.Reading.{inode_at}
 use Rattle.sound_image.specs.Rules.{IsInData}
 use Rattle.image_rules.specs.Faults.{IsCaused}
 use Rattle.image_rules.specs.Gathered.{CoreFault, IsNextChunk}
-use Rattle.image_rules.specs.Listing.{IsFound}
+use Rattle.image_rules.specs.Listing.{GroupIsFound}
 use Rattle.image_rules.specs.Shown.{Shows}
 use Rattle.image_rules.proofs.Tallies.{chunks_none, chunks_more, group_sum}
 use Rattle.image_rules.proofs.Outcomes.{passed_up}
@@ -20,7 +20,7 @@ loop-chunk-init g c =
     record {
       read = g.met.V.View.no_read a.view.now;
       gathered = λ known same.
-          subst (λ (n : ℕ). IsFound a.g.now (g.V.View.image a.view.now) a.group n c.new-found.result) (sym (bound_none c.chunks-chunks.result.now))
+          subst (λ (n : ℕ). GroupIsFound a.g.now (g.V.View.image a.view.now) a.group n c.new-found.result) (sym (bound_none c.chunks-chunks.result.now))
           (c.new-found.ensures.found a.g.now (g.V.View.image a.view.now) a.group (search rules) (same ∙ sym c.chunks-chunks.ensures.all));
       counted = λ known same. c.new-found.ensures.none ∙ sym (chunks_none a.g.now (g.V.View.image a.view.now) a.group c.chunks-chunks.result.now);
     }
@@ -78,7 +78,7 @@ loop-chunk-preserved g c = record {
       let read : Shows image c.sector_at-at.result c.in_ok-sectors.sectors.items = subst (λ (l : List Sector). Shows l c.sector_at-at.result c.in_ok-sectors.sectors.items) stays (c.in_ok-sectors.ensures.shown known) in
       let shows : Shows image (sector_in a.g.now a.group (get_or chunks i blank).start) c.deref.result.now =
       subst (λ (s : ℕ). Shows image s c.deref.result.now) c.sector_at-at.ensures.place (subst (Shows image c.sector_at-at.result) (sym c.deref.ensures.value) read) in
-      subst (λ (n : ℕ). IsFound a.g.now image a.group n c.add_chunk.new.self) (sym (bound_more chunks i))
+      subst (λ (n : ℕ). GroupIsFound a.g.now image a.group n c.add_chunk.new.self) (sym (bound_more chunks i))
       (c.in_ok-add_chunk.ensures.taken image (bound_at chunks i) next shows (c.loop-chunk.invariant.gathered known same));
   counted = λ known same.
       let a = c.args in

@@ -2,7 +2,7 @@ use Rattle.std.proofs.Common.{◌≡◌, ℕ, List, sym, ap, subst, ◌∙◌, A
 use Rattle.std.proofs.lemmas.Bool.{false≢true}
 use Rattle.life_bytes.specs.SectorBytes.{bytes_of}
 use Rattle.inobt_leaf.specs.declared.chunk.ChunkRec.{ChunkRec}
-use Rattle.inobt_leaf.specs.Pages.{encoding}
+use Rattle.inobt_leaf.specs.Pages.{page_encoding}
 use Rattle.sound_image.specs.Reading.{page_sector, records_of}
 use Rattle.sound_image.specs.Rules.{IsInData}
 use Rattle.image_rules.proofs.Paging.{shown_bytes, page_right, page_place, page_encoded, read_in_data}
@@ -23,7 +23,7 @@ returns-then-are_in_data-clause-right c image root shows =
     let bytes = shown_bytes image (page_sector a.g.now image a.group) 8 a.page.now shows c.requires.page in
     let found = c.in_ok-leaf.ensures.found in
     page_right c.encoded_pages_are_read.ensures a.g.now image a.group (bytes_of a.page.now) c.in_ok-leaf.leaf bytes c.requires.shape.uuid found.0
-    (found.1 ∙ ap (λ (s : ℕ). encoding c.in_ok-leaf.leaf a.group s a.g.now.uuid) (sym place))
+    (found.1 ∙ ap (λ (s : ℕ). page_encoding c.in_ok-leaf.leaf a.group s a.g.now.uuid) (sym place))
     (subst (λ (chunks : List ChunkRec). All (IsInData a.g.now.blocks) chunks) c.chunks.ensures.all (c.are_in_data.ensures.sound c.if-are_in_data.true))
 
 pub returns-else-are_in_data-clause-wrong : goal.returns-else-are_in_data-clause-wrong

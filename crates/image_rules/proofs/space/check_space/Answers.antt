@@ -3,7 +3,7 @@ use Rattle.life_bytes.specs.declared.sector.Sector.{Sector}
 use Rattle.inobt_leaf.specs.Chunks.{IsLeaf}
 use Rattle.ag_header.specs.declared.agi.Agi.{Agi}
 use Rattle.inobt_leaf.specs.declared.chunk.ChunkRec.{ChunkRec}
-use Rattle.sound_image.specs.Counts.{orphans_in}
+use Rattle.sound_image.specs.Counts.{orphans_in_group}
 use Rattle.sound_image.specs.Damage.{Rule, HoldsIn, tree, bitmap}
 use Rattle.sound_image.specs.Reading.{header_of, records_of, group_read}
 use Rattle.sound_image.specs.Rules.{free_set}
@@ -143,6 +143,6 @@ returns-clause-right g c known =
           leaf.0.1.free,
           c.groups_are_counted.ensures.inodes k image a.group leaf.0.0.leaf,
         );
-        orphans = c.count-tables.ensures.orphans ∙ c.in_ok-found.ensures.counted known records2 ∙ ap (λ (l : List Sector). orphans_in (group_read k l a.group)) same2;
+        orphans = c.count-tables.ensures.orphans ∙ c.in_ok-found.ensures.counted known records2 ∙ ap (λ (l : List Sector). orphans_in_group (group_read k l a.group)) same2;
       },
     )

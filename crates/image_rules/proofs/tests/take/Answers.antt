@@ -1,6 +1,6 @@
 use Rattle.std.proofs.Common.{◌≡◌, ◌-◌, ℕ, true, Option, IsSomeAnd, sym, subst, ◌∙◌}
+use Rattle.life_bytes.specs.Bits.{is_set}
 use Rattle.inobt_leaf.specs.declared.chunk.ChunkRec.{ChunkRec}
-use Rattle.inobt_leaf.specs.Masks.{is_set}
 use Rattle.image_rules.proofs.tests.take.Goals as goal
 
 pub take-requires : goal.take-requires

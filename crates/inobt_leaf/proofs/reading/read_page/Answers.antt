@@ -4,7 +4,7 @@ use Rattle.std.proofs.lemmas.List.FromFn.{length-map-range_with_len}
 use Rattle.life_bytes.specs.Fields.{field}
 use Rattle.inobt_leaf.specs.declared.chunk.ChunkRec.{ChunkRec}
 use Rattle.inobt_leaf.specs.Chunks.{IsLeaf}
-use Rattle.inobt_leaf.specs.Pages.{encoding, chunk_at}
+use Rattle.inobt_leaf.specs.Pages.{page_encoding, chunk_at}
 use Rattle.inobt_leaf.proofs.Whole.{count_says, read_again}
 use Rattle.inobt_leaf.proofs.reading.read_page.Goals as goal
 
@@ -36,4 +36,4 @@ returns-else-is_page_of-clause-only c chunks leaf encoded =
     ∙ read_again chunks c.in_ok-chunks.chunks.items c.gather-bytes.result c.from-count.result a.group a.at a.uuid.now leaf c.told-uuid
     (c.gather-bytes.ensures ∙ encoded) (c.from-count.ensures ∙ c.field_u16.ensures) c.in_ok-chunks.ensures in
     absurd (false≢true (sym c.if-is_page_of.false ∙ c.is_page_of.ensures.complete (subst IsLeaf (sym same) leaf)
-    (c.gather-bytes.ensures ∙ encoded ∙ ap (λ (cs : List ChunkRec). encoding cs a.group a.at a.uuid.now) (sym same))))
+    (c.gather-bytes.ensures ∙ encoded ∙ ap (λ (cs : List ChunkRec). page_encoding cs a.group a.at a.uuid.now) (sym same))))

@@ -1,8 +1,8 @@
 use Rattle.std.proofs.Common.{◌≡◌, ◌-◌, ℕ, false, get_or, set, refl, ap, sym, ◌∙◌, subst}
 use Rattle.inobt_leaf.specs.declared.chunk.ChunkRec.{ChunkRec}
-use Rattle.inobt_leaf.specs.Masks.{is_set}
-use Rattle.inobt_leaf.specs.Chunks.{IsChunk, IsLeaf, after_give}
+use Rattle.inobt_leaf.specs.Chunks.{IsChunkRecord, IsLeaf, after_give}
 use Rattle.std.proofs.lemmas.List.Elements.{All-get_or}
+use Rattle.life_bytes.specs.Bits.{is_set}
 use Rattle.inobt_leaf.proofs.Places.{found_at, map-where_held, leaf-set}
 use Rattle.inobt_leaf.proofs.Changes.{IsChunk-after_give, no_place}
 use Rattle.inobt_leaf.proofs.records.give_in.Goals as goal
@@ -24,7 +24,7 @@ returns-clause-leaf c =
     let h = c.in-Some.ensures.some in
     let chunk = get_or chunks c.in-Some.place blank in
     let bit = found_at chunks c.args.agino c.in-Some.place blank (λ chunk. is_set chunk.mask (c.args.agino - chunk.start) ≡ false) c.requires.leaf h.0 (h.1 blank) c.requires.taken in
-    let is = IsChunk-after_give c.args.agino chunk (All-get_or IsChunk chunks c.in-Some.place blank h.0 c.requires.leaf.each) (h.1 blank) bit in
+    let is = IsChunk-after_give c.args.agino chunk (All-get_or IsChunkRecord chunks c.in-Some.place blank h.0 c.requires.leaf.each) (h.1 blank) bit in
     subst (λ (m : ℕ). IsLeaf (set chunks c.in-Some.place (record (after_give c.args.agino chunk) { mask = m }))) (sym c.with_set.ensures)
     (leaf-set chunks c.in-Some.place blank (after_give c.args.agino chunk) c.requires.leaf h.0 is refl)
 

@@ -1,5 +1,5 @@
 use Rattle.std.proofs.Common.{ℕ, List, subst, ◌∙◌}
-use Rattle.inode_core.specs.Cores.{Encodes}
+use Rattle.inode_core.specs.Cores.{EncodesCore}
 use Rattle.inode_core.proofs.Encoded.{one_sector, same_fork}
 use Rattle.inode_core.proofs.reading.is_encoded.Goals as goal
 
@@ -12,7 +12,7 @@ returns c =
     let again = c.write_core.new.into.bytes in
     let written = c.write_core.ensures in
     let given = c.fork_for-again in (
-      λ yes. subst (λ (b : List ℕ). Encodes b ino uuid core) (c.is_same.ensures.0 yes) written.encoded,
+      λ yes. subst (λ (b : List ℕ). EncodesCore b ino uuid core) (c.is_same.ensures.0 yes) written.encoded,
       λ encoded. c.is_same.ensures.1 (one_sector again bytes ino uuid core written.encoded encoded
           (written.same_fork ∙ same_fork core ino uuid bytes given.result.bytes given.ensures.live given.ensures.free encoded)),
     )

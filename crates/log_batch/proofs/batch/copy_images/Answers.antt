@@ -2,7 +2,7 @@ use Rattle.std.proofs.Common.{List, [], ◌∷◌, ◌++◌, get_or, ap, sym, �
 use Rattle.std.proofs.lemmas.List.{map_more}
 use Rattle.log_record.specs.declared.image.Image.{Image}
 use Rattle.log_batch.specs.declared.find.Pick.{Pick}
-use Rattle.log_batch.specs.Picks.{image_at, Names}
+use Rattle.log_batch.specs.Picks.{picked_image, Names}
 use Rattle.log_batch.proofs.Picks.{named}
 use Rattle.log_batch.proofs.batch.copy_images.Goals as goal
 
@@ -26,7 +26,7 @@ loop-pick-preserved c =
     let blank : Image = record { home = 0; sector = record { bytes = [] } } in record {
       images = c.push_reserved.ensures.items
           ∙ ap (λ (m : Image). c.loop-pick.into.items ++ m ∷ []) (image.1 blank)
-          ∙ ap (λ (l : List Image). l ++ image_at commits pick ∷ []) c.loop-pick.invariant.images
-          ∙ sym (map_more (image_at commits) c.args.picks.now c.loop-pick.pick-index (record { home = 0; commit = 0; image = 0 }) c.loop-pick-test.true);
+          ∙ ap (λ (l : List Image). l ++ picked_image commits pick ∷ []) c.loop-pick.invariant.images
+          ∙ sym (map_more (picked_image commits) c.args.picks.now c.loop-pick.pick-index (record { home = 0; commit = 0; image = 0 }) c.loop-pick-test.true);
       capacity = c.push_reserved.ensures.capacity ∙ c.loop-pick.invariant.capacity;
     }

@@ -1,6 +1,6 @@
 use Rattle.std.proofs.Common.{◌<◌, [], length, get_or, ap, sym, ◌∙◌, arith}
 use Rattle.log_record.specs.declared.image.Commit.{Commit}
-use Rattle.log_batch.specs.Picks.{image_at}
+use Rattle.log_batch.specs.Picks.{picked_image}
 use Rattle.log_batch.specs.Put.{put_all}
 use Rattle.log_batch.proofs.Picks.{commits_more, puts_grow}
 use Rattle.std.proofs.lemmas.List.{length-map}
@@ -10,7 +10,7 @@ pub put_commit-requires-clause-room : goal.put_commit-requires-clause-room
 put_commit-requires-clause-room c =
     let commits = c.args.commits.now.items in
     let grow = puts_grow commits c.loop-at.at c.args.taken (omega arith) in
-    let size = length-map c.loop-at.picks.items (image_at commits) in
+    let size = length-map c.loop-at.picks.items (picked_image commits) in
     let same = ap length c.loop-at.invariant.put in
     omega (arith, c.requires.few, c.requires.room, c.loop-at.invariant.capacity, c.loop-at.picks.ok.0)
 

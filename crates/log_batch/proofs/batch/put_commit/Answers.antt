@@ -1,7 +1,7 @@
 use Rattle.std.proofs.Common.{◌≡◌, [], map, length, get_or, ap, sym, ◌∙◌, subst, arith}
 use Rattle.log_record.specs.declared.image.Image.{Image}
 use Rattle.log_batch.specs.declared.find.Pick.{Pick}
-use Rattle.log_batch.specs.Picks.{ArePicks, image_at}
+use Rattle.log_batch.specs.Picks.{ArePicks, picked_image}
 use Rattle.log_batch.specs.Put.{put, put_by}
 use Rattle.log_batch.specs.PutLaws.{length-put}
 use Rattle.log_batch.specs.NewestLaws.{put_more}
@@ -20,10 +20,10 @@ loop-i-preserved c =
     let sizes = length-put (λ (p : Pick). p.home) pick c.loop-i.picks.items in
     let size = ap length is in record {
       picks = subst (ArePicks commits) (sym is) one.0;
-      put = ap (map (image_at commits)) is ∙ one.1
-          ∙ ap (λ (m : Image). put m (map (image_at commits) c.loop-i.picks.items)) named.1
+      put = ap (map (picked_image commits)) is ∙ one.1
+          ∙ ap (λ (m : Image). put m (map (picked_image commits) c.loop-i.picks.items)) named.1
           ∙ ap (put (get_or images c.loop-i.i none)) c.loop-i.invariant.put
-          ∙ sym (put_more images c.loop-i.i none (map (image_at commits) c.args.picks.now.items) c.loop-i-test.true);
+          ∙ sym (put_more images c.loop-i.i none (map (picked_image commits) c.args.picks.now.items) c.loop-i-test.true);
       size = omega (arith, sizes.1);
       capacity = c.put_pick.ensures.capacity ∙ c.loop-i.invariant.capacity;
     }

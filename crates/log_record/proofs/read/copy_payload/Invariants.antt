@@ -1,6 +1,7 @@
 use Rattle.std.proofs.Common.{length, take, drop, ◌-◌, ◌+◌, ◌*◌, ◌≤◌, ◌≡◌, ℕ}
 use Rattle.life_bytes.specs.Fields.{AreBytes}
-use Rattle.log_record.specs.Payload.{AreSectors, payload_of, window}
+use Rattle.life_bytes.specs.Sectors.{AreSectors}
+use Rattle.log_record.specs.Payload.{payload_of, window}
 use Rattle.log_record.proofs.read.copy_payload.Given as goal
 
 abbrev pub invariant-loop-done : goal.invariant-loop-done

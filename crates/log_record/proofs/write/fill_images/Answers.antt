@@ -5,7 +5,7 @@ use Rattle.life_bytes.specs.Fields.{with_piece}
 use Rattle.log_record.specs.declared.image.Image.{Image}
 use Rattle.log_record.specs.Numbers.{record_of}
 use Rattle.log_record.specs.Payload.{payload_of}
-use Rattle.log_record.specs.Encoding.{FitsImage, header, image_bytes, payload, sector_count}
+use Rattle.log_record.specs.Encoding.{FitsImage, record_header, image_bytes, payload, sector_count}
 use Rattle.log_record.proofs.Encoded.{header_of, length-header, length-images, with_piece-zeros, image_step, stamps_follow, more_images, encoded_from_parts}
 use Rattle.log_record.proofs.write.fill_images.Goals as goal
 

@@ -1,7 +1,8 @@
 use Rattle.std.proofs.Common.{◌≡◌, ◌+◌, ◌*◌, ◌-◌, ◌++◌, length, take, replicate}
 use Rattle.std.specs.List.{flat_map, All}
+use Rattle.life_bytes.specs.Sectors.{AreSectors}
 use Rattle.log_record.specs.Numbers.{record_of}
-use Rattle.log_record.specs.Payload.{AreSectors, HasStamps, payload_of}
+use Rattle.log_record.specs.Payload.{HasStamps, payload_of}
 use Rattle.log_record.specs.Encoding.{FitsImage, image_bytes}
 use Rattle.log_record.proofs.Encoded.{header_of}
 use Rattle.log_record.proofs.write.fill_images.Given as goal

@@ -1,6 +1,7 @@
 use Rattle.std.proofs.Common.{◌≡◌, ◌+◌, ◌≤◌, ◌*◌, length, map}
 use Rattle.life_bytes.specs.Fields.{with_piece}
-use Rattle.log_record.specs.Payload.{AreSectors, payload_of, stamps_of}
+use Rattle.life_bytes.specs.Sectors.{AreSectors}
+use Rattle.log_record.specs.Payload.{payload_of, stamps_of}
 use Rattle.log_record.proofs.write.put_payload.Given as goal
 
 abbrev pub invariant-loop-rest : goal.invariant-loop-rest

@@ -8,7 +8,7 @@ use Rattle.log_image.specs.Log.{IsGroupImage, empty_log, groups_part}
 use Rattle.log_image.specs.Overlay.{newest, overlaid}
 use Rattle.log_image.specs.OverlayLaws.{newest-none}
 use Rattle.log_batch.specs.Newest.{IsCommit, commit_images}
-use Rattle.log_batch.specs.Put.{Rises}
+use Rattle.log_batch.specs.Put.{KeysRise}
 use Rattle.log_record.specs.declared.image.Commit.{Commit}
 use Rattle.log_store.specs.OnDisk.{HasLogTo}
 use Rattle.log_batch.specs.NewestLaws.{none_some}
@@ -28,7 +28,7 @@ returns-clause-store g c =
         commits = subst (λ (l : List Commit). All IsCommit l) (sym items) (All-nil IsCommit);
         groups = subst (λ (l : List Commit). All (IsGroupImage c.args.anchor) (commit_images l)) (sym items) (All-nil (IsGroupImage c.args.anchor));
         numbers = omega (arith, c.requires.number.1, ap length items);
-        rises = subst (λ (l : List Image). Rises (λ (i : Image). i.home) 0 l) (sym none) tt;
+        rises = subst (λ (l : List Image). KeysRise (λ (i : Image). i.home) 0 l) (sym none) tt;
         homes = subst (λ (l : List Image). All (IsGroupImage c.args.anchor) l) (sym none) (All-nil (IsGroupImage c.args.anchor));
         room = omega (arith, ap (λ (l : List Commit). length (commit_images l)) items);
         buffer = omega (arith, c.in-Ok-vec.ensures.len, c.in-Ok-vec.sectors.ok.0);

@@ -3,15 +3,15 @@ use Rattle.life_bytes.specs.declared.sector.Sector.{Sector}
 use Rattle.disk_model.specs.Disk.{Cell, IsImage, as_read, flushed, written}
 use Rattle.disk_model.specs.DiskLaws.{IsImage-as_read, IsImage-flushed, as_read-flushed, length-image}
 use Rattle.log_record.specs.declared.record.LogRecord.{LogRecord}
-use Rattle.log_record.specs.Encoding.{encoded}
+use Rattle.log_record.specs.Encoding.{encoded_record}
 use Rattle.log_image.specs.Log.{groups_part}
 use Rattle.log_image.specs.Overlay.{images_of, newest, overlaid}
 use Rattle.log_image.specs.OverlayLaws.{overlaid-none, newest-none}
-use Rattle.log_image.specs.Step.{IsLogged, IsPartlyLogged, cover_of, covered as covered_log, place_of}
+use Rattle.log_image.specs.Step.{IsLogged, IsPartlyLogged, cover_of, covered as covered_log, sector_of_position}
 use Rattle.log_image.specs.Writes.{first_part, rest_part}
 use Rattle.log_batch.specs.NewestLaws.{none_some}
 use Rattle.log_store.specs.State.{State}
-use Rattle.log_store.specs.Landed.{RingFits, covered}
+use Rattle.log_store.specs.Landed.{RingFits, covered_state}
 use Rattle.log_store.specs.OnDisk.{Covers, HasLogTo, base_of, cover_record, cover_written}
 use Rattle.log_store.proofs.laws.cover_flights.Goals as goal
 
@@ -22,7 +22,7 @@ same_cover s before covers =
     ap (λ (at : ℕ). cover at (s.durable + 1)) (sym covers.rest.end) ∙ ap (λ (n : ℕ). cover covers.rest.log.end n) (sym covers.rest.next)
 
 -- it does not pass the ring's end
-straight : (c : goal.After-disk_writes) (s : State) → 0 < s.ring → (first_part s.ring (cover_record s) ≡ encoded (cover_record s)) × (rest_part s.ring (cover_record s) ≡ [])
+straight : (c : goal.After-disk_writes) (s : State) → 0 < s.ring → (first_part s.ring (cover_record s) ≡ encoded_record (cover_record s)) × (rest_part s.ring (cover_record s) ≡ [])
 straight c s some = c.disk_writes.ensures.straight s.ring (cover_record s) (omega arith)
 
 -- an image over which the cover was written or not
@@ -31,7 +31,7 @@ torn_cover : (c : goal.After-disk_writes) (s : State) (before : List Cell) (imag
 torn_cover c s before image covers fits is =
     let at = straight c s fits.some in
     c.disk_writes.ensures.first before image s.anchor s.ring (cover_record s) fits.some (omega (arith, fits.some))
-    (subst (λ (l : List Sector). IsImage (written (place_of s.anchor s.ring s.head) l before) image) (sym at.0) is)
+    (subst (λ (l : List Sector). IsImage (written (sector_of_position s.anchor s.ring s.head) l before) image) (sym at.0) is)
 
 -- all is home: the groups of each image are the base
 all_home : (c : goal.After-disk_writes) (s : State) (before : List Cell) (old : List Sector) (covers : Covers s before) → RingFits s before → IsImage before old
@@ -49,8 +49,8 @@ read_whole : (c : goal.After-disk_writes) (s : State) (before : List Cell) → R
 read_whole c s before fits =
     let at = straight c s fits.some in
     let both = c.disk_writes.ensures.read before s.anchor s.ring (cover_record s) fits.place fits.some (omega (arith, fits.some)) in
-    subst (λ (l : List Sector). IsLogged s.anchor s.ring (cover_record s) (as_read before) (as_read (written (place_of s.anchor s.ring s.head) l before))) at.0
-    (subst (λ (l : List Sector). IsLogged s.anchor s.ring (cover_record s) (as_read before) (as_read (written (s.anchor + 1) l (written (place_of s.anchor s.ring s.head) (first_part s.ring (cover_record s)) before)))) at.1 both)
+    subst (λ (l : List Sector). IsLogged s.anchor s.ring (cover_record s) (as_read before) (as_read (written (sector_of_position s.anchor s.ring s.head) l before))) at.0
+    (subst (λ (l : List Sector). IsLogged s.anchor s.ring (cover_record s) (as_read before) (as_read (written (s.anchor + 1) l (written (sector_of_position s.anchor s.ring s.head) (first_part s.ring (cover_record s)) before)))) at.1 both)
 
 same_groups : (c : goal.After-disk_writes) (s : State) (before : List Cell) → RingFits s before
     → groups_part s.anchor (as_read (flushed (cover_written s before))) ≡ groups_part s.anchor (as_read before)
@@ -106,9 +106,9 @@ returns-clause-landed c = λ s before covers fits end.
     let cover = same_cover s before covers in
     let whole = subst (λ (item : LogRecord). IsLogged s.anchor s.ring item (as_read before) reads) cover (read_whole c s before fits) in
     let part = in_part s.anchor s.ring (cover_of log) (as_read before) reads whole in
-    let bare : base_of (covered s) (flushed after) ≡ groups_part s.anchor (as_read (flushed after)) =
+    let bare : base_of (covered_state s) (flushed after) ≡ groups_part s.anchor (as_read (flushed after)) =
     ap (overlaid (groups_part s.anchor (as_read (flushed after)))) covers.dirty ∙ overlaid-none (groups_part s.anchor (as_read (flushed after))) in
-    let right : HasLogTo s.anchor s.ring (covered_log log) (base_of (covered s) (flushed after)) reads = record {
+    let right : HasLogTo s.anchor s.ring (covered_log log) (base_of (covered_state s) (flushed after)) reads = record {
       says = c.covers.ensures.whole (as_read before) reads s.anchor s.ring log has.says has.below fits.some (omega (arith, covers.rest.end, end)) whole;
       below = c.covers.ensures.below (as_read before) reads s.anchor s.ring log has.says has.below fits.some part;
       groups = c.covers.ensures.replayed s.anchor reads log ∙ sym (bare ∙ ap (take s.anchor) (as_read-flushed after));
@@ -118,7 +118,7 @@ returns-clause-landed c = λ s before covers fits end.
       tail = covers.rest.end;
       end = ap (λ (n : ℕ). n + 1) covers.rest.end;
       next = covers.rest.next;
-      images = λ image is. subst (HasLogTo s.anchor s.ring (covered_log log) (base_of (covered s) (flushed after))) (sym (IsImage-flushed after image is)) right;
+      images = λ image is. subst (HasLogTo s.anchor s.ring (covered_log log) (base_of (covered_state s) (flushed after))) (sym (IsImage-flushed after image is)) right;
       logged = λ home sector is. absurd (none_some (sym (ap (newest home) covers.dirty ∙ newest-none home) ∙ is));
       home = λ home sector d below newer none. absurd (none_some (sym (newest-none home) ∙ newer));
       clean = λ none still image is. λ home sector d below newer. absurd (none_some (sym (newest-none home) ∙ newer));

@@ -1,6 +1,6 @@
 use Rattle.std.proofs.Common.{◌≡◌, ℕ, ◌-◌, ◌%◌, ◌≤◌, List, [], ◌∷◌, ◌++◌, length, take, refl, sym, ap, ◌∙◌, subst, inl, inr, arith}
 use Rattle.std.proofs.lemmas.List.{length-take}
-use Rattle.log_record.specs.Encoding.{sector_count, encoded}
+use Rattle.log_record.specs.Encoding.{sector_count, encoded_record}
 use Rattle.log_image.specs.Writes.{first_part}
 use Rattle.life_bytes.specs.declared.sector.Sector.{Sector}
 use Rattle.disk_model.specs.Disk.{Cell, IsImage, as_read, flushed}
@@ -9,9 +9,9 @@ use Rattle.log_record.specs.declared.record.LogRecord.{LogRecord}
 use Rattle.log_image.specs.Log.{groups_part, replayed}
 use Rattle.log_image.specs.Overlay.{images_of, overlaid}
 use Rattle.log_image.specs.OverlayLaws.{overlaid-none, overlaid-newest}
-use Rattle.log_image.specs.Step.{IsLogged, IsPartlyLogged, place_of, with_record}
+use Rattle.log_image.specs.Step.{IsLogged, IsPartlyLogged, sector_of_position, with_record}
 use Rattle.log_batch.specs.Newest.{commit_images}
-use Rattle.log_batch.specs.Put.{Rises, put_all}
+use Rattle.log_batch.specs.Put.{KeysRise, put_all}
 use Rattle.log_store.specs.State.{State}
 use Rattle.log_store.specs.Landed.{RingFits, landed}
 use Rattle.log_store.specs.OnDisk.{Flies, HasLogTo, ReplaysTo, base_of, fully_written, item_of}
@@ -69,7 +69,7 @@ same_groups c s before flies fits =
     ∙ c.torn_records.ensures.groups (as_read before) (as_read (fully_written s before)) s.anchor s.ring (item_of s)
     (in_part s.anchor s.ring (item_of s) (as_read before) (as_read (fully_written s before)) (read_whole c s before flies fits))
 
-landed_base : (c : goal.After-disk_writes) (s : State) (before : List Cell) → Flies s before → RingFits s before → Rises (λ i. i.home) 0 s.dirty
+landed_base : (c : goal.After-disk_writes) (s : State) (before : List Cell) → Flies s before → RingFits s before → KeysRise (λ i. i.home) 0 s.dirty
     → base_of (landed s) (flushed (fully_written s before)) ≡ overlaid (base_of s before) (commit_images (take s.taken s.list))
 landed_base c s before flies fits rises =
     ap (λ (l : List Sector). overlaid l (put_all s.batch s.dirty)) (same_groups c s before flies fits)
@@ -77,10 +77,10 @@ landed_base c s before flies fits rises =
 
 pub returns-clause-half_base : goal.returns-clause-half_base
 returns-clause-half_base c = λ s before fits.
-    let at = place_of s.anchor s.ring s.head in
+    let at = sector_of_position s.anchor s.ring s.head in
     let pieces = first_part s.ring (item_of s) in
     base-written s at pieces before (omega arith)
-    (omega (arith, fits.place, fits.some, length-take (s.ring - s.head % s.ring) (encoded (item_of s))))
+    (omega (arith, fits.place, fits.some, length-take (s.ring - s.head % s.ring) (encoded_record (item_of s))))
 
 pub returns-clause-full_base : goal.returns-clause-full_base
 returns-clause-full_base c = λ s before flies fits.

@@ -9,35 +9,35 @@ use Rattle.log_image.specs.Log.{AreBelow}
 use Rattle.log_image.specs.Overlay.{images_of, newest, overlaid}
 use Rattle.log_image.specs.OverlayLaws.{overlaid-none}
 use Rattle.log_batch.specs.NewestLaws.{newest_below, newest_first, newest_rest, none_some, some_same}
-use Rattle.log_batch.specs.Put.{Rises}
+use Rattle.log_batch.specs.Put.{KeysRise}
 use Rattle.log_store.specs.State.{State}
 use Rattle.log_store.specs.Landed.{flushed_home, written_home}
 use Rattle.log_store.specs.OnDisk.{AtRest, HasLogTo, base_of}
 use Rattle.log_store.proofs.Base.{ReadsHome, as_read-one, base-flushed, base_home, base_home_twice, clean_flushed, torn_one}
 use Rattle.log_store.proofs.laws.homes.Goals as goal
 
-first_rises : (dirty rest : List Image) (image : Image) → dirty ≡ image ∷ rest → Rises (λ i. i.home) 0 dirty → Rises (λ i. i.home) 0 (image ∷ rest)
-first_rises dirty rest image is rises = subst (λ (l : List Image). Rises (λ (i : Image). i.home) 0 l) is rises
+first_rises : (dirty rest : List Image) (image : Image) → dirty ≡ image ∷ rest → KeysRise (λ i. i.home) 0 dirty → KeysRise (λ i. i.home) 0 (image ∷ rest)
+first_rises dirty rest image is rises = subst (λ (l : List Image). KeysRise (λ (i : Image). i.home) 0 l) is rises
 
 -- the first dirty image is the newest of its home
-first_newest : (dirty rest : List Image) (image : Image) → dirty ≡ image ∷ rest → Rises (λ i. i.home) 0 dirty → newest image.home dirty ≡ Some image.sector
+first_newest : (dirty rest : List Image) (image : Image) → dirty ≡ image ∷ rest → KeysRise (λ i. i.home) 0 dirty → newest image.home dirty ≡ Some image.sector
 first_newest dirty rest image is rises = ap (newest image.home) is ∙ newest_first 0 image rest (first_rises dirty rest image is rises)
 
 other_newest : (home : ℕ) (dirty rest : List Image) (image : Image) → dirty ≡ image ∷ rest → home ≢ image.home → newest home dirty ≡ newest home rest
 other_newest home dirty rest image is other = ap (newest home) is ∙ newest_rest home image rest other
 
 -- the rest has none of its home
-rest_newest : (dirty rest : List Image) (image : Image) → dirty ≡ image ∷ rest → Rises (λ i. i.home) 0 dirty → newest image.home rest ≡ None
+rest_newest : (dirty rest : List Image) (image : Image) → dirty ≡ image ∷ rest → KeysRise (λ i. i.home) 0 dirty → newest image.home rest ≡ None
 rest_newest dirty rest image is rises = newest_below image.home (image.home + 1) rest (first_rises dirty rest image is rises).1 (omega arith)
 
 -- the newest logged image of the first dirty home
-logged_first : (s : State) (cells : List Cell) (image : Image) (rest : List Image) (r : AtRest s cells) → s.dirty ≡ image ∷ rest → Rises (λ i. i.home) 0 s.dirty
+logged_first : (s : State) (cells : List Cell) (image : Image) (rest : List Image) (r : AtRest s cells) → s.dirty ≡ image ∷ rest → KeysRise (λ i. i.home) 0 s.dirty
     → newest image.home (images_of r.log.records) ≡ Some image.sector
 logged_first s cells image rest r is rises = r.logged image.home image.sector (first_newest s.dirty rest image is rises)
 
 -- an image left by the write has the log, and replays as before
 has_log : (c : goal.After-disk_writes) (s : State) (cells : List Cell) (image : Image) (rest : List Image) (left : List Sector) (r : AtRest s cells)
-    → s.dirty ≡ image ∷ rest → Rises (λ i. i.home) 0 s.dirty → image.home < s.anchor → s.anchor ≤ length cells
+    → s.dirty ≡ image ∷ rest → KeysRise (λ i. i.home) 0 s.dirty → image.home < s.anchor → s.anchor ≤ length cells
     → IsImage (written image.home (image.sector ∷ []) cells) left → HasLogTo s.anchor s.ring r.log (base_of s cells) left
 has_log c s cells image rest left r is rises below within left_is =
     let newer = logged_first s cells image rest r is rises in

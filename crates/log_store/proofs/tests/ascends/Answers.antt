@@ -1,8 +1,8 @@
 use Rattle.std.proofs.Common.{◌≡◌, ◌+◌, ◌-◌, ℕ, [], inl, inr, get_or, ap, arith}
 use Rattle.std.proofs.lemmas.Bool.{cases_lt}
 use Rattle.std.proofs.lemmas.List.{get_or-map}
+use Rattle.log_image.specs.Overlay.{homes}
 use Rattle.log_record.specs.declared.image.Image.{Image}
-use Rattle.log_batch.specs.Newest.{homes}
 use Rattle.log_store.proofs.tests.ascends.Goals as goal
 
 pub loop-i-preserved : goal.loop-i-preserved

@@ -1,5 +1,5 @@
 use Rattle.std.proofs.Common.{◌<◌, ◌+◌, ℕ, get_or}
-use Rattle.log_batch.specs.Newest.{homes}
+use Rattle.log_image.specs.Overlay.{homes}
 use Rattle.log_store.proofs.tests.ascends.Given as goal
 
 abbrev pub invariant-loop-i : goal.invariant-loop-i

@@ -1,9 +1,9 @@
 use Rattle.std.proofs.Common.{◌≡◌, ◌+◌, ℕ, List, Some, take, drop, slice_get, sym, ap, ◌∙◌}
+use Rattle.geometry.specs.Places.{anchor_of}
 use Rattle.life_bytes.specs.declared.sector.Sector.{Sector}
 use Rattle.disk_model.specs.Disk.{as_read}
 use Rattle.log_image.specs.Anchor.{HasAnchor}
 use Rattle.log_image.specs.Log.{ring_part}
-use Rattle.recovery.specs.Scan.{anchor_of}
 use Rattle.recovery.proofs.Read.{tells}
 use Rattle.recovery.proofs.reading.scan.Goals as goal
 

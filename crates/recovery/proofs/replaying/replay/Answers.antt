@@ -1,10 +1,10 @@
 use Rattle.std.proofs.Common.{List}
+use Rattle.geometry.specs.Places.{anchor_of}
 use Rattle.life_bytes.specs.declared.sector.Sector.{Sector}
 use Rattle.disk_model.specs.Disk.{as_read}
 use Rattle.disk_model.specs.DiskLaws.{IsImage-as_read}
 use Rattle.recovery.specs.Put.{IsPartlyPut}
 use Rattle.recovery.specs.Replay.{IsEither, Recovers, groups_found}
-use Rattle.recovery.specs.Scan.{anchor_of}
 use Rattle.recovery.proofs.Puts.{elapses_more, elapses_none, put_first}
 use Rattle.disk_model.specs.DiskLaws.{IsAfterWrites-both}
 use Rattle.recovery.proofs.Recovering.{Laws, Home, begins_anew, recovers_either, recovers_partly}

@@ -1,7 +1,7 @@
 use Rattle.std.proofs.Common.{◌≡◌, length, arith, sym, ap, ◌∙◌}
 use Rattle.disk_model.specs.Disk.{settled_as}
 use Rattle.disk_model.specs.DiskLaws.{length-as_read, length-settled_as, as_read-settled_as, HasOneImage-settled_as}
-use Rattle.disk_model.specs.MemoryDisk.{replayed}
+use Rattle.disk_model.specs.MemoryDisk.{after_changes}
 use Rattle.disk_model.specs.MemoryEntry.{changes_of}
 use Rattle.disk_model.proofs.Picked.{IsImage-picked, length-replayed, refilled}
 use Rattle.disk_model.proofs.memory_disk.MemoryDisk.pick.Goals as goal
@@ -10,7 +10,7 @@ pub copy_from_slice-requires : goal.copy_from_slice-requires
 copy_from_slice-requires c =
     let cells = settled_as c.self.inside.first.items in
     let changes = changes_of c.self.inside.entries.items in
-    omega (arith, c.self.inside.sectors.ok.0, c.self.inside.first.ok.0, c.deref-2.ensures.len, ap length c.self.invariant, length-as_read (replayed cells changes), length-replayed cells changes, length-settled_as c.self.inside.first.items)
+    omega (arith, c.self.inside.sectors.ok.0, c.self.inside.first.ok.0, c.deref-2.ensures.len, ap length c.self.invariant, length-as_read (after_changes cells changes), length-replayed cells changes, length-settled_as c.self.inside.first.items)
 
 pub invariant_of-self : goal.invariant_of-self
 invariant_of-self c = rw (c.copy_from_slice.ensures.items, c.deref-2.ensures.value, c.clear.ensures.items) (sym (as_read-settled_as _))

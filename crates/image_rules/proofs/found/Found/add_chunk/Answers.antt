@@ -1,7 +1,7 @@
 use Rattle.std.proofs.Common.{◌≡◌, ◌+◌, ℕ, [], ap, subst, arith}
 use Rattle.image_rules.specs.Faults.{IsCaused}
 use Rattle.image_rules.specs.Gathered.{CoreFault}
-use Rattle.image_rules.specs.Listing.{IsFound}
+use Rattle.image_rules.specs.Listing.{GroupIsFound}
 use Rattle.image_rules.proofs.Finding.{IsFound-wider}
 use Rattle.image_rules.proofs.Gathering.{next_of}
 use Rattle.image_rules.proofs.Tallies.{orphans_to, orphans_none, orphans_more, orphans_all}
@@ -13,7 +13,7 @@ loop-index-init c = record {
   found = λ image bound next shows was.
       let a = c.args in
       let e : a.chunk.now.start ≡ a.chunk.now.start + 0 = omega arith in
-      subst (λ (n : ℕ). IsFound a.g.now image a.group n a.self.now) e (IsFound-wider a.g.now image a.group bound a.chunk.now.start a.self.now next.from next.none was);
+      subst (λ (n : ℕ). GroupIsFound a.g.now image a.group n a.self.now) e (IsFound-wider a.g.now image a.group bound a.chunk.now.start a.self.now next.from next.none was);
   counted = λ image bound next shows was. omega (arith, orphans_none c.args.g.now image c.args.group c.args.chunk.now);
 }
 
@@ -39,7 +39,7 @@ loop-index-preserved c =
     record {
       found = λ image bound next shows was.
           let e : start + i + 1 ≡ start + (i + 1) = omega arith in
-          subst (λ (n : ℕ). IsFound a.g.now image a.group n c.add.new.self) e
+          subst (λ (n : ℕ). GroupIsFound a.g.now image a.group n c.add.new.self) e
           (c.in_ok-add.ensures.taken image (start + i)
           (next_of a.g.now image a.group bound a.chunk.now a.sectors.now i (record { bytes = [] }) c.is_free-free.result next shows c.requires.sectors c.loop-index-test.true c.is_free-free.ensures)
           (c.loop-index.invariant.found image bound next shows was));
@@ -54,7 +54,7 @@ pub returns-clause-taken : goal.returns-clause-taken
 returns-clause-taken c image bound next shows was =
     let a = c.args in
     let e : c.loop-index.index ≡ 64 = omega (arith, c.loop-index.auto.index-end) in
-    subst (λ (n : ℕ). IsFound a.g.now image a.group (a.chunk.now.start + n) c.loop-index.self) e (c.loop-index.invariant.found image bound next shows was)
+    subst (λ (n : ℕ). GroupIsFound a.g.now image a.group (a.chunk.now.start + n) c.loop-index.self) e (c.loop-index.invariant.found image bound next shows was)
 
 pub returns-clause-counted : goal.returns-clause-counted
 returns-clause-counted c image bound next shows was =

@@ -1,5 +1,5 @@
 use Rattle.std.proofs.Common.{◌/◌, List, ℕ, ap, ◌∙◌, arith}
-use Rattle.inode_cache.specs.Numbers.{has}
+use Rattle.inode_cache.specs.Numbers.{has_number}
 use Rattle.inode_cache.proofs.Bits.{inserted_here, inserted_others, read}
 use Rattle.inode_cache.proofs.number_set.NumberSet.insert.Goals as goal
 
@@ -9,4 +9,4 @@ returns-clause-here c = inserted_here c.self.inside.words.items c.args.number c.
 pub returns-clause-others : goal.returns-clause-others
 returns-clause-others c = λ n ne.
     inserted_others c.self.inside.words.items c.args.number c.index_mut.result.now (omega (arith, c.requires, c.self.invariant)) (read c.self.inside.words.items (c.args.number / 64) c.index_mut.result.now c.index_mut.ensures.value (omega (arith, c.requires, c.self.invariant))) n ne
-    ∙ ap (λ (l : List ℕ). has l n) c.self.view_is
+    ∙ ap (λ (l : List ℕ). has_number l n) c.self.view_is

@@ -3,12 +3,12 @@ use Rattle.std.specs.Prelude.{IsTrue}
 use Rattle.life_bytes.specs.declared.sector.Sector.{Sector}
 use Rattle.disk_model.specs.Disk.{Cell, IsImage, flushed}
 use Rattle.disk_model.specs.DiskLaws.{length-written}
-use Rattle.log_record.specs.Encoding.{encoded}
-use Rattle.log_image.specs.Step.{place_of}
+use Rattle.log_record.specs.Encoding.{encoded_record}
+use Rattle.log_image.specs.Step.{sector_of_position}
 use Rattle.log_store.specs.declared.store.Store.{Store}
 use Rattle.log_store.specs.declared.store.Stage.{Stage}
 use Rattle.log_store.specs.declared.store.Stage.TheVariants.{Free}
-use Rattle.log_store.specs.Landed.{RingFits, covered}
+use Rattle.log_store.specs.Landed.{RingFits, covered_state}
 use Rattle.log_store.specs.OnDisk.{AtRest, Covers, HoldsAtStage, ReplaysTo, ReplaysUpTo, base_of, cover_record, cover_written}
 use Rattle.log_store.specs.State.{State, state_of}
 use Rattle.log_store.specs.Steps.{Goes, StageFits}
@@ -32,12 +32,12 @@ returns-then-eq-clause-goes g c =
     let ring_fits : IsTrue g.D.Disk.known → RingFits s cells = λ tells. record { some = ring_some; place = omega (arith, sound.place, g.met.D.Disk.cells_fit tells old.disk) } in
     let before_fits : (tells : IsTrue g.D.Disk.known) → RingFits s (held tells).0 = λ tells. record {
       some = ring_some;
-      place = omega (arith, sound.place, g.met.D.Disk.cells_fit tells old.disk, ap length (held tells).2, length-written (place_of s.anchor s.ring s.head) (encoded (cover_record s)) (held tells).0);
+      place = omega (arith, sound.place, g.met.D.Disk.cells_fit tells old.disk, ap length (held tells).2, length-written (sector_of_position s.anchor s.ring s.head) (encoded_record (cover_record s)) (held tells).0);
     } in
     let images : IsTrue g.D.Disk.known → (image : List Sector) → IsImage cells image → ReplaysTo s cells image = λ tells image is.
     c.states.ensures.replays s cells image (c.requires.store.holds tells) (ring_fits tells) (λ at. fit.0) is in
-    let after : IsTrue g.D.Disk.known → AtRest (covered s) (g.D.Disk.cells disk) = λ tells.
-    subst (λ (cs : List Cell). AtRest (covered s) cs) (ap flushed (sym (held tells).2) ∙ sym (c.in-Ok.ensures.flushed tells))
+    let after : IsTrue g.D.Disk.known → AtRest (covered_state s) (g.D.Disk.cells disk) = λ tells.
+    subst (λ (cs : List Cell). AtRest (covered_state s) cs) (ap flushed (sym (held tells).2) ∙ sym (c.in-Ok.ensures.flushed tells))
     (c.cover_flights.ensures.landed s (held tells).0 (held tells).1 (before_fits tells) fit.0) in
     let now : ℕ → ℕ → State = λ head tail. record s { head = head; tail = tail; stage = Free } in
     record {
@@ -82,12 +82,12 @@ returns-else-eq-clause-goes g c =
     let ring_fits : IsTrue g.D.Disk.known → RingFits s cells = λ tells. record { some = ring_some; place = omega (arith, sound.place, g.met.D.Disk.cells_fit tells old.disk) } in
     let before_fits : (tells : IsTrue g.D.Disk.known) → RingFits s (held tells).0 = λ tells. record {
       some = ring_some;
-      place = omega (arith, sound.place, g.met.D.Disk.cells_fit tells old.disk, ap length (held tells).2, length-written (place_of s.anchor s.ring s.head) (encoded (cover_record s)) (held tells).0);
+      place = omega (arith, sound.place, g.met.D.Disk.cells_fit tells old.disk, ap length (held tells).2, length-written (sector_of_position s.anchor s.ring s.head) (encoded_record (cover_record s)) (held tells).0);
     } in
     let images : IsTrue g.D.Disk.known → (image : List Sector) → IsImage cells image → ReplaysTo s cells image = λ tells image is.
     c.states.ensures.replays s cells image (c.requires.store.holds tells) (ring_fits tells) (λ at. fit.0) is in
-    let after : IsTrue g.D.Disk.known → AtRest (covered s) (g.D.Disk.cells disk) = λ tells.
-    subst (λ (cs : List Cell). AtRest (covered s) cs) (ap flushed (sym (held tells).2) ∙ sym (c.in-Ok.ensures.flushed tells))
+    let after : IsTrue g.D.Disk.known → AtRest (covered_state s) (g.D.Disk.cells disk) = λ tells.
+    subst (λ (cs : List Cell). AtRest (covered_state s) cs) (ap flushed (sym (held tells).2) ∙ sym (c.in-Ok.ensures.flushed tells))
     (c.cover_flights.ensures.landed s (held tells).0 (held tells).1 (before_fits tells) fit.0) in
     let now : ℕ → ℕ → State = λ head tail. record s { head = head; tail = tail; stage = Free } in
     record {
@@ -132,7 +132,7 @@ returns-in-Err-clause-goes g c =
     let ring_fits : IsTrue g.D.Disk.known → RingFits s cells = λ tells. record { some = ring_some; place = omega (arith, sound.place, g.met.D.Disk.cells_fit tells old.disk) } in
     let before_fits : (tells : IsTrue g.D.Disk.known) → RingFits s (held tells).0 = λ tells. record {
       some = ring_some;
-      place = omega (arith, sound.place, g.met.D.Disk.cells_fit tells old.disk, ap length (held tells).2, length-written (place_of s.anchor s.ring s.head) (encoded (cover_record s)) (held tells).0);
+      place = omega (arith, sound.place, g.met.D.Disk.cells_fit tells old.disk, ap length (held tells).2, length-written (sector_of_position s.anchor s.ring s.head) (encoded_record (cover_record s)) (held tells).0);
     } in
     let images : IsTrue g.D.Disk.known → (image : List Sector) → IsImage cells image → ReplaysTo s cells image = λ tells image is.
     c.states.ensures.replays s cells image (c.requires.store.holds tells) (ring_fits tells) (λ at. fit.0) is in

@@ -10,10 +10,10 @@ use Rattle.log_record.specs.declared.image.Image.{Image}
 use Rattle.log_record.specs.declared.image.Commit.{Commit}
 use Rattle.log_record.specs.Encoding.{sector_count}
 use Rattle.log_image.specs.Log.{IsGroupImage}
-use Rattle.log_image.specs.Step.{place_of}
+use Rattle.log_image.specs.Step.{sector_of_position}
 use Rattle.log_image.specs.Writes.{first_part, rest_part}
 use Rattle.log_batch.specs.Newest.{commit_images}
-use Rattle.log_batch.specs.Put.{Rises, put_all}
+use Rattle.log_batch.specs.Put.{KeysRise, put_all}
 use Rattle.log_store.specs.declared.store.Store.{Store}
 use Rattle.log_store.specs.declared.store.Stage.{Stage}
 use Rattle.log_store.specs.declared.store.Stage.TheVariants.{Cover, Free, Record}
@@ -111,7 +111,7 @@ returns-then-is_empty-clause-goes g c =
         g.met.D.Disk.cells_fit tells old.disk,
         ap length (held tells).2,
         length-written (s.anchor + 1) (rest_part s.ring (item_of s)) (half_written s (held tells).0),
-        length-written (place_of s.anchor s.ring s.head) (first_part s.ring (item_of s)) (held tells).0,
+        length-written (sector_of_position s.anchor s.ring s.head) (first_part s.ring (item_of s)) (held tells).0,
       );
     } in
     let images : IsTrue g.D.Disk.known → (image : List Sector) → IsImage cells image → ReplaysTo s cells image = λ tells image is.
@@ -152,7 +152,7 @@ returns-then-is_empty-clause-goes g c =
           commits = subst (λ (l : List Commit). All IsCommit l) (sym list_is) (All-drop IsCommit old.taken old.queue.items sound.commits);
           groups = subst (λ (l : List Commit). All (IsGroupImage old.anchor) (commit_images l)) (sym list_is) (groups_left old.anchor old.taken old.queue.items sound.groups);
           numbers = omega (arith, sound.numbers, ap length list_is, length-drop old.taken old.queue.items, flight.batch.within);
-          rises = subst (λ (l : List Image). Rises (λ (i : Image). i.home) 0 l) (sym dirty_is) (Rises-put_all old.batch old.dirty.images sound.rises);
+          rises = subst (λ (l : List Image). KeysRise (λ (i : Image). i.home) 0 l) (sym dirty_is) (Rises-put_all old.batch old.dirty.images sound.rises);
           homes = subst (λ (l : List Image). All (IsGroupImage old.anchor) l) (sym dirty_is)
               (All-put_all (IsGroupImage old.anchor) old.batch old.dirty.images (groups_batch old.anchor old.taken old.queue.items old.batch flight.batch sound.groups) sound.homes);
           room = omega (
@@ -212,7 +212,7 @@ returns-else-is_empty-clause-goes g c =
         g.met.D.Disk.cells_fit tells old.disk,
         ap length (held tells).2,
         length-written (s.anchor + 1) (rest_part s.ring (item_of s)) (half_written s (held tells).0),
-        length-written (place_of s.anchor s.ring s.head) (first_part s.ring (item_of s)) (held tells).0,
+        length-written (sector_of_position s.anchor s.ring s.head) (first_part s.ring (item_of s)) (held tells).0,
       );
     } in
     let images : IsTrue g.D.Disk.known → (image : List Sector) → IsImage cells image → ReplaysTo s cells image = λ tells image is.
@@ -253,7 +253,7 @@ returns-else-is_empty-clause-goes g c =
           commits = subst (λ (l : List Commit). All IsCommit l) (sym list_is) (All-drop IsCommit old.taken old.queue.items sound.commits);
           groups = subst (λ (l : List Commit). All (IsGroupImage old.anchor) (commit_images l)) (sym list_is) (groups_left old.anchor old.taken old.queue.items sound.groups);
           numbers = omega (arith, sound.numbers, ap length list_is, length-drop old.taken old.queue.items, flight.batch.within);
-          rises = subst (λ (l : List Image). Rises (λ (i : Image). i.home) 0 l) (sym dirty_is) (Rises-put_all old.batch old.dirty.images sound.rises);
+          rises = subst (λ (l : List Image). KeysRise (λ (i : Image). i.home) 0 l) (sym dirty_is) (Rises-put_all old.batch old.dirty.images sound.rises);
           homes = subst (λ (l : List Image). All (IsGroupImage old.anchor) l) (sym dirty_is)
               (All-put_all (IsGroupImage old.anchor) old.batch old.dirty.images (groups_batch old.anchor old.taken old.queue.items old.batch flight.batch sound.groups) sound.homes);
           room = omega (
@@ -353,7 +353,7 @@ returns-in-Err-clause-goes g c =
         g.met.D.Disk.cells_fit tells old.disk,
         ap length (held tells).2,
         length-written (s.anchor + 1) (rest_part s.ring (item_of s)) (half_written s (held tells).0),
-        length-written (place_of s.anchor s.ring s.head) (first_part s.ring (item_of s)) (held tells).0,
+        length-written (sector_of_position s.anchor s.ring s.head) (first_part s.ring (item_of s)) (held tells).0,
       );
     } in
     let images : IsTrue g.D.Disk.known → (image : List Sector) → IsImage cells image → ReplaysTo s cells image = λ tells image is.

@@ -1,6 +1,6 @@
 use Rattle.log_store.specs.declared.store.Stage.TheVariants.{Down, Free}
 use Rattle.std.proofs.Common.{◌≡◌, ◌≤◌, ℕ}
-use Rattle.log_store.specs.Outcome.{CoverEndsPast, Rises, Stays, covers_of, goal_of, steps_left}
+use Rattle.log_store.specs.Outcome.{CoverEndsPast, Rises, PositionsStay, covers_of, goal_of, steps_left}
 use Rattle.disk_model.specs.Disk.{IsAfterWrites}
 use Rattle.log_store.specs.declared.store.Job.TheVariants.{Home, WriteBack}
 use Rattle.log_store.specs.State.{state_of}
@@ -13,8 +13,8 @@ invariant-loop g l = record {
   goal : goal_of l.self.job ≡ goal_of l.fn.self.job;
   faults : g.D.Disk.fault_count l.fn.self.disk ≤ g.D.Disk.fault_count l.self.disk;
   rises : Rises (covers_of l.fn.self.job) (covers_of l.self.job) (state_of l.fn.self) (state_of l.self);
-  back : l.fn.self.job ≡ WriteBack → Stays (state_of l.fn.self) (state_of l.self);
-  home : l.fn.self.job ≡ Home → Stays (state_of l.fn.self) (state_of l.self);
+  back : l.fn.self.job ≡ WriteBack → PositionsStay (state_of l.fn.self) (state_of l.self);
+  home : l.fn.self.job ≡ Home → PositionsStay (state_of l.fn.self) (state_of l.self);
   at_end : l.fn.self.job ≡ Home → l.fn.self.stage ≡ Free → CoverEndsPast (state_of l.fn.self) → l.self ≡ l.fn.self;
   arming : IsAfterWrites (g.D.Disk.arming l.fn.self.disk) (g.D.Disk.arming l.self.disk);
   down : (fault : ℕ) → l.fn.self.stage ≡ Down fault → l.self ≡ l.fn.self;

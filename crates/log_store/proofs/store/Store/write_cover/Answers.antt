@@ -4,8 +4,8 @@ use Rattle.life_bytes.specs.declared.sector.Sector.{Sector}
 use Rattle.disk_model.specs.Disk.{Cell, IsImage, Elapses, IsPartlyWritten, written}
 use Rattle.disk_model.specs.DiskLaws.{IsImage-partly_written}
 use Rattle.log_record.specs.declared.record.LogRecord.{LogRecord}
-use Rattle.log_record.specs.Encoding.{encoded}
-use Rattle.log_image.specs.Step.{place_of}
+use Rattle.log_record.specs.Encoding.{encoded_record}
+use Rattle.log_image.specs.Step.{sector_of_position}
 use Rattle.log_store.specs.declared.store.Store.{Store}
 use Rattle.log_store.specs.declared.store.Stage.{Stage}
 use Rattle.log_store.specs.declared.store.Stage.TheVariants.{Cover}
@@ -49,13 +49,13 @@ returns-in-Ok-clause-goes g c =
     let xs = c.fill_buffer.new.sectors.items in
     let with_head : ℕ → LogRecord = λ head. record { position = head; tail = head; first = old.durable + 1; commits = 0; images = [] } in
     let same_item : with_head c.head-head.result ≡ cover_record s = ap with_head c.head-head.ensures.head in
-    let encoded_is : take 1 xs ≡ encoded (cover_record s) = c.fill_buffer.ensures.encoded ∙ ap encoded same_item in
-    let pieces_is : take 1 c.deref.result.now ≡ encoded (cover_record s) = ap (λ (l : List Sector). take 1 l) c.deref.ensures.value ∙ encoded_is in
-    let place_is : old.anchor + 1 + c.place.result ≡ place_of old.anchor old.ring old.positions.head =
+    let encoded_is : take 1 xs ≡ encoded_record (cover_record s) = c.fill_buffer.ensures.encoded ∙ ap encoded_record same_item in
+    let pieces_is : take 1 c.deref.result.now ≡ encoded_record (cover_record s) = ap (λ (l : List Sector). take 1 l) c.deref.ensures.value ∙ encoded_is in
+    let place_is : old.anchor + 1 + c.place.result ≡ sector_of_position old.anchor old.ring old.positions.head =
     ap (λ (n : ℕ). old.anchor + 1 + n) (c.place.ensures.place ∙ ap (λ (n : ℕ). n % old.positions.ring) c.head-head.ensures.head ∙ ap (λ (n : ℕ). old.positions.head % n) sound.ring) in
     let cells_is : written (old.anchor + 1 + c.place.result) (take 1 c.deref.result.now) cells ≡ cover_written s cells =
     ap (λ (n : ℕ). written n (take 1 c.deref.result.now) cells) place_is
-    ∙ ap (λ (l : List Sector). written (place_of old.anchor old.ring old.positions.head) l cells) pieces_is in
+    ∙ ap (λ (l : List Sector). written (sector_of_position old.anchor old.ring old.positions.head) l cells) pieces_is in
     let end : old.positions.head + 1 ≤ 2 ^ 63 = last_left old.positions.head (ap (λ (n : ℕ). n) (sym c.head-head.ensures.head)) c.head-head.ensures.end c.if-head.false in
     let long = c.fill_buffer.ensures.length ∙ sound.buffer in
     let ring_some : 0 < old.ring = omega (arith, c.place.ensures.within, sound.ring) in
@@ -86,13 +86,13 @@ returns-in-Err-clause-goes g c =
     let xs = c.fill_buffer.new.sectors.items in
     let with_head : ℕ → LogRecord = λ head. record { position = head; tail = head; first = old.durable + 1; commits = 0; images = [] } in
     let same_item : with_head c.head-head.result ≡ cover_record s = ap with_head c.head-head.ensures.head in
-    let encoded_is : take 1 xs ≡ encoded (cover_record s) = c.fill_buffer.ensures.encoded ∙ ap encoded same_item in
-    let pieces_is : take 1 c.deref.result.now ≡ encoded (cover_record s) = ap (λ (l : List Sector). take 1 l) c.deref.ensures.value ∙ encoded_is in
-    let place_is : old.anchor + 1 + c.place.result ≡ place_of old.anchor old.ring old.positions.head =
+    let encoded_is : take 1 xs ≡ encoded_record (cover_record s) = c.fill_buffer.ensures.encoded ∙ ap encoded_record same_item in
+    let pieces_is : take 1 c.deref.result.now ≡ encoded_record (cover_record s) = ap (λ (l : List Sector). take 1 l) c.deref.ensures.value ∙ encoded_is in
+    let place_is : old.anchor + 1 + c.place.result ≡ sector_of_position old.anchor old.ring old.positions.head =
     ap (λ (n : ℕ). old.anchor + 1 + n) (c.place.ensures.place ∙ ap (λ (n : ℕ). n % old.positions.ring) c.head-head.ensures.head ∙ ap (λ (n : ℕ). old.positions.head % n) sound.ring) in
     let cells_is : written (old.anchor + 1 + c.place.result) (take 1 c.deref.result.now) cells ≡ cover_written s cells =
     ap (λ (n : ℕ). written n (take 1 c.deref.result.now) cells) place_is
-    ∙ ap (λ (l : List Sector). written (place_of old.anchor old.ring old.positions.head) l cells) pieces_is in
+    ∙ ap (λ (l : List Sector). written (sector_of_position old.anchor old.ring old.positions.head) l cells) pieces_is in
     let end : old.positions.head + 1 ≤ 2 ^ 63 = last_left old.positions.head (ap (λ (n : ℕ). n) (sym c.head-head.ensures.head)) c.head-head.ensures.end c.if-head.false in
     let long = c.fill_buffer.ensures.length ∙ sound.buffer in
     let ring_some : 0 < old.ring = omega (arith, c.place.ensures.within, sound.ring) in
@@ -104,13 +104,13 @@ returns-in-Err-clause-goes g c =
     } in
     let images : IsTrue g.D.Disk.known → (image : List Sector) → IsImage (cover_written s cells) image → ReplaysTo s cells image = λ tells image is.
     c.cover_flights.ensures.written s cells image (covers old.stage tells) (ring_fits tells) end is in
-    let partly : IsTrue g.D.Disk.known → IsPartlyWritten (place_of old.anchor old.ring old.positions.head) (encoded (cover_record s)) cells (g.D.Disk.cells disk) = λ tells.
-    subst (λ (l : List Sector). IsPartlyWritten (place_of old.anchor old.ring old.positions.head) l cells (g.D.Disk.cells disk)) pieces_is
+    let partly : IsTrue g.D.Disk.known → IsPartlyWritten (sector_of_position old.anchor old.ring old.positions.head) (encoded_record (cover_record s)) cells (g.D.Disk.cells disk) = λ tells.
+    subst (λ (l : List Sector). IsPartlyWritten (sector_of_position old.anchor old.ring old.positions.head) l cells (g.D.Disk.cells disk)) pieces_is
     (subst (λ (n : ℕ). IsPartlyWritten n (take 1 c.deref.result.now) cells (g.D.Disk.cells disk)) place_is (c.in-Err.ensures.failed tells)) in
     subst (λ (x : Store g.row.D.Denot). Goes g.D.Disk.known g.D.Disk.cells g.D.Disk.sector_count g.D.Disk.moment g.D.Disk.left_since old x) (sym c.go_down.ensures)
     (falls g.D.Disk.known g.D.Disk.cells g.D.Disk.sector_count g.D.Disk.moment g.D.Disk.left_since old disk c.fill_buffer.new.sectors _ c.requires.store c.in-Err.ensures.sectors long
-    (λ tells. base-partly s (place_of old.anchor old.ring old.positions.head) (encoded (cover_record s)) cells (g.D.Disk.cells disk) (omega arith) (partly tells))
-    (λ tells image is. images tells image (IsImage-partly_written (place_of old.anchor old.ring old.positions.head) (encoded (cover_record s)) cells (g.D.Disk.cells disk) image (partly tells) is))
+    (λ tells. base-partly s (sector_of_position old.anchor old.ring old.positions.head) (encoded_record (cover_record s)) cells (g.D.Disk.cells disk) (omega arith) (partly tells))
+    (λ tells image is. images tells image (IsImage-partly_written (sector_of_position old.anchor old.ring old.positions.head) (encoded_record (cover_record s)) cells (g.D.Disk.cells disk) image (partly tells) is))
     (λ tells. leaves _ _ _ _ (cover_written s cells) (ReplaysTo s cells)
     (subst (λ (cs : List Cell). Elapses (g.D.Disk.moment old.disk) (g.D.Disk.moment disk) (g.D.Disk.left_since old.disk) (g.D.Disk.left_since disk) (IsImage cs)) cells_is (c.in-Err.ensures.time tells))
     (images tells)))

@@ -4,7 +4,7 @@ use Rattle.std.proofs.lemmas.List.Elements.{All-drop}
 use Rattle.disk_model.specs.Disk.{Cell, written}
 use Rattle.log_record.specs.declared.image.Image.{Image}
 use Rattle.log_image.specs.Log.{IsGroupImage}
-use Rattle.log_batch.specs.Put.{Rises}
+use Rattle.log_batch.specs.Put.{KeysRise}
 use Rattle.log_store.specs.Landed.{written_home}
 use Rattle.log_store.specs.OnDisk.{AtRest, ReplaysTo, base_of}
 use Rattle.log_store.specs.State.{State, state_of}
@@ -36,7 +36,7 @@ returns-in-Ok-clause-goes g c =
           commits = sound.commits;
           groups = sound.groups;
           numbers = sound.numbers;
-          rises = subst (λ (l : List Image). Rises (λ (i : Image). i.home) 0 l) (sym images) (rises_rest old.dirty.images image rest is sound.rises);
+          rises = subst (λ (l : List Image). KeysRise (λ (i : Image). i.home) 0 l) (sym images) (rises_rest old.dirty.images image rest is sound.rises);
           homes = subst (λ (l : List Image). All (IsGroupImage old.anchor) l) (sym images) (All-drop (IsGroupImage old.anchor) 1 old.dirty.images sound.homes);
           room = omega (arith, sound.room, c.remove_first.ensures.room);
           buffer = sound.buffer;

@@ -6,8 +6,8 @@ use Rattle.disk_model.specs.Disk.{Cell, IsImage, Elapses, IsPartlyWritten, writt
 use Rattle.disk_model.specs.DiskLaws.{IsImage-partly_written}
 use Rattle.log_record.specs.declared.image.Image.{Image}
 use Rattle.log_record.specs.declared.record.LogRecord.{LogRecord}
-use Rattle.log_record.specs.Encoding.{FitsFields, sector_count, encoded}
-use Rattle.log_image.specs.Step.{place_of}
+use Rattle.log_record.specs.Encoding.{FitsFields, sector_count, encoded_record}
+use Rattle.log_image.specs.Step.{sector_of_position}
 use Rattle.log_image.specs.Writes.{first_part, rest_part}
 use Rattle.log_store.specs.declared.store.Store.{Store}
 use Rattle.log_store.specs.declared.store.Stage.{Stage}
@@ -56,16 +56,16 @@ returns-then-part-count-clause-goes g c =
     ap (λ (n : ℕ). with_head n c.tail.result c.images.result.now) c.head-head.ensures.head
     ∙ ap (λ (n : ℕ). with_head old.positions.head n c.images.result.now) c.tail.ensures.tail
     ∙ ap (λ (l : List Image). with_head old.positions.head old.positions.tail l) c.images.ensures in
-    let encoded_is : take old.count xs ≡ encoded (item_of s) = c.fill_buffer.ensures.encoded ∙ ap encoded same_item in
+    let encoded_is : take old.count xs ≡ encoded_record (item_of s) = c.fill_buffer.ensures.encoded ∙ ap encoded_record same_item in
     let fits_is = subst FitsFields same_item c.fill_buffer.ensures.fits in
     let least : c.min-part.result ≡ min old.count k = c.min-part.ensures ∙ ap (λ (n : ℕ). min old.count n) c.straight.ensures.left in
     let pieces_is : take c.min-part.result c.deref.result.now ≡ first_part old.ring (item_of s) =
-    ap (λ (l : List Sector). take c.min-part.result l) c.deref.ensures.value ∙ ap (λ (n : ℕ). take n xs) least ∙ front_part xs (encoded (item_of s)) old.count k encoded_is in
-    let place_is : old.anchor + 1 + c.place.result ≡ place_of old.anchor old.ring old.positions.head =
+    ap (λ (l : List Sector). take c.min-part.result l) c.deref.ensures.value ∙ ap (λ (n : ℕ). take n xs) least ∙ front_part xs (encoded_record (item_of s)) old.count k encoded_is in
+    let place_is : old.anchor + 1 + c.place.result ≡ sector_of_position old.anchor old.ring old.positions.head =
     ap (λ (n : ℕ). old.anchor + 1 + n) (c.place.ensures.place ∙ ap (λ (n : ℕ). n % old.positions.ring) c.head-head.ensures.head ∙ ap (λ (n : ℕ). old.positions.head % n) sound.ring) in
     let cells_is : written (old.anchor + 1 + c.place.result) (take c.min-part.result c.deref.result.now) cells ≡ half_written s cells =
     ap (λ (n : ℕ). written n (take c.min-part.result c.deref.result.now) cells) place_is
-    ∙ ap (λ (l : List Sector). written (place_of old.anchor old.ring old.positions.head) l cells) pieces_is in
+    ∙ ap (λ (l : List Sector). written (sector_of_position old.anchor old.ring old.positions.head) l cells) pieces_is in
     let end : old.positions.head + old.count ≤ 2 ^ 63 = omega (arith, c.if-head-from.false, c.from.ensures, c.head-head.ensures.head, c.head-head.ensures.end) in
     let long = c.fill_buffer.ensures.length ∙ sound.buffer in
     let ring_some : 0 < old.ring = omega (arith, c.requires.room) in
@@ -83,7 +83,7 @@ returns-then-part-count-clause-goes g c =
       batch = taken_of old.queue.items old.taken old.batch c.requires.batch;
       fits = fits_is;
       size = c.requires.size;
-      encoded = encoded_is;
+      encoded_record = encoded_is;
       room = c.requires.room;
       end = end;
     } in
@@ -110,16 +110,16 @@ returns-else-part-count-clause-goes g c =
     ap (λ (n : ℕ). with_head n c.tail.result c.images.result.now) c.head-head.ensures.head
     ∙ ap (λ (n : ℕ). with_head old.positions.head n c.images.result.now) c.tail.ensures.tail
     ∙ ap (λ (l : List Image). with_head old.positions.head old.positions.tail l) c.images.ensures in
-    let encoded_is : take old.count xs ≡ encoded (item_of s) = c.fill_buffer.ensures.encoded ∙ ap encoded same_item in
+    let encoded_is : take old.count xs ≡ encoded_record (item_of s) = c.fill_buffer.ensures.encoded ∙ ap encoded_record same_item in
     let fits_is = subst FitsFields same_item c.fill_buffer.ensures.fits in
     let least : c.min-part.result ≡ min old.count k = c.min-part.ensures ∙ ap (λ (n : ℕ). min old.count n) c.straight.ensures.left in
     let pieces_is : take c.min-part.result c.deref.result.now ≡ first_part old.ring (item_of s) =
-    ap (λ (l : List Sector). take c.min-part.result l) c.deref.ensures.value ∙ ap (λ (n : ℕ). take n xs) least ∙ front_part xs (encoded (item_of s)) old.count k encoded_is in
-    let place_is : old.anchor + 1 + c.place.result ≡ place_of old.anchor old.ring old.positions.head =
+    ap (λ (l : List Sector). take c.min-part.result l) c.deref.ensures.value ∙ ap (λ (n : ℕ). take n xs) least ∙ front_part xs (encoded_record (item_of s)) old.count k encoded_is in
+    let place_is : old.anchor + 1 + c.place.result ≡ sector_of_position old.anchor old.ring old.positions.head =
     ap (λ (n : ℕ). old.anchor + 1 + n) (c.place.ensures.place ∙ ap (λ (n : ℕ). n % old.positions.ring) c.head-head.ensures.head ∙ ap (λ (n : ℕ). old.positions.head % n) sound.ring) in
     let cells_is : written (old.anchor + 1 + c.place.result) (take c.min-part.result c.deref.result.now) cells ≡ half_written s cells =
     ap (λ (n : ℕ). written n (take c.min-part.result c.deref.result.now) cells) place_is
-    ∙ ap (λ (l : List Sector). written (place_of old.anchor old.ring old.positions.head) l cells) pieces_is in
+    ∙ ap (λ (l : List Sector). written (sector_of_position old.anchor old.ring old.positions.head) l cells) pieces_is in
     let end : old.positions.head + old.count ≤ 2 ^ 63 = omega (arith, c.if-head-from.false, c.from.ensures, c.head-head.ensures.head, c.head-head.ensures.end) in
     let long = c.fill_buffer.ensures.length ∙ sound.buffer in
     let ring_some : 0 < old.ring = omega (arith, c.requires.room) in
@@ -137,11 +137,11 @@ returns-else-part-count-clause-goes g c =
       batch = taken_of old.queue.items old.taken old.batch c.requires.batch;
       fits = fits_is;
       size = c.requires.size;
-      encoded = encoded_is;
+      encoded_record = encoded_is;
       room = c.requires.room;
       end = end;
     } in
-    let none : rest_part old.ring (item_of s) ≡ [] = no_rest xs (encoded (item_of s)) old.count k (omega (arith, c.if-part-count.false, least)) encoded_is in
+    let none : rest_part old.ring (item_of s) ≡ [] = no_rest xs (encoded_record (item_of s)) old.count k (omega (arith, c.if-part-count.false, least)) encoded_is in
     goes_written g.D.Disk.known g.D.Disk.cells g.D.Disk.sector_count g.D.Disk.moment g.D.Disk.left_since old disk c.fill_buffer.new.sectors Record c.requires.store
     (subst (λ (j : Job). JobFits Record j) (sym c.requires.job) tt)
     c.in-Ok.ensures.sectors long (flight Record)
@@ -165,16 +165,16 @@ returns-in-Err-clause-goes g c =
     ap (λ (n : ℕ). with_head n c.tail.result c.images.result.now) c.head-head.ensures.head
     ∙ ap (λ (n : ℕ). with_head old.positions.head n c.images.result.now) c.tail.ensures.tail
     ∙ ap (λ (l : List Image). with_head old.positions.head old.positions.tail l) c.images.ensures in
-    let encoded_is : take old.count xs ≡ encoded (item_of s) = c.fill_buffer.ensures.encoded ∙ ap encoded same_item in
+    let encoded_is : take old.count xs ≡ encoded_record (item_of s) = c.fill_buffer.ensures.encoded ∙ ap encoded_record same_item in
     let fits_is = subst FitsFields same_item c.fill_buffer.ensures.fits in
     let least : c.min-part.result ≡ min old.count k = c.min-part.ensures ∙ ap (λ (n : ℕ). min old.count n) c.straight.ensures.left in
     let pieces_is : take c.min-part.result c.deref.result.now ≡ first_part old.ring (item_of s) =
-    ap (λ (l : List Sector). take c.min-part.result l) c.deref.ensures.value ∙ ap (λ (n : ℕ). take n xs) least ∙ front_part xs (encoded (item_of s)) old.count k encoded_is in
-    let place_is : old.anchor + 1 + c.place.result ≡ place_of old.anchor old.ring old.positions.head =
+    ap (λ (l : List Sector). take c.min-part.result l) c.deref.ensures.value ∙ ap (λ (n : ℕ). take n xs) least ∙ front_part xs (encoded_record (item_of s)) old.count k encoded_is in
+    let place_is : old.anchor + 1 + c.place.result ≡ sector_of_position old.anchor old.ring old.positions.head =
     ap (λ (n : ℕ). old.anchor + 1 + n) (c.place.ensures.place ∙ ap (λ (n : ℕ). n % old.positions.ring) c.head-head.ensures.head ∙ ap (λ (n : ℕ). old.positions.head % n) sound.ring) in
     let cells_is : written (old.anchor + 1 + c.place.result) (take c.min-part.result c.deref.result.now) cells ≡ half_written s cells =
     ap (λ (n : ℕ). written n (take c.min-part.result c.deref.result.now) cells) place_is
-    ∙ ap (λ (l : List Sector). written (place_of old.anchor old.ring old.positions.head) l cells) pieces_is in
+    ∙ ap (λ (l : List Sector). written (sector_of_position old.anchor old.ring old.positions.head) l cells) pieces_is in
     let end : old.positions.head + old.count ≤ 2 ^ 63 = omega (arith, c.if-head-from.false, c.from.ensures, c.head-head.ensures.head, c.head-head.ensures.end) in
     let long = c.fill_buffer.ensures.length ∙ sound.buffer in
     let ring_some : 0 < old.ring = omega (arith, c.requires.room) in
@@ -192,17 +192,17 @@ returns-in-Err-clause-goes g c =
       batch = taken_of old.queue.items old.taken old.batch c.requires.batch;
       fits = fits_is;
       size = c.requires.size;
-      encoded = encoded_is;
+      encoded_record = encoded_is;
       room = c.requires.room;
       end = end;
     } in
-    let partly : IsTrue g.D.Disk.known → IsPartlyWritten (place_of old.anchor old.ring old.positions.head) (first_part old.ring (item_of s)) cells (g.D.Disk.cells disk) = λ tells.
-    subst (λ (l : List Sector). IsPartlyWritten (place_of old.anchor old.ring old.positions.head) l cells (g.D.Disk.cells disk)) pieces_is
+    let partly : IsTrue g.D.Disk.known → IsPartlyWritten (sector_of_position old.anchor old.ring old.positions.head) (first_part old.ring (item_of s)) cells (g.D.Disk.cells disk) = λ tells.
+    subst (λ (l : List Sector). IsPartlyWritten (sector_of_position old.anchor old.ring old.positions.head) l cells (g.D.Disk.cells disk)) pieces_is
     (subst (λ (n : ℕ). IsPartlyWritten n (take c.min-part.result c.deref.result.now) cells (g.D.Disk.cells disk)) place_is (c.in-Err.ensures.failed tells)) in
     subst (λ (x : Store g.row.D.Denot). Goes g.D.Disk.known g.D.Disk.cells g.D.Disk.sector_count g.D.Disk.moment g.D.Disk.left_since old x) (sym c.go_down.ensures)
     (falls g.D.Disk.known g.D.Disk.cells g.D.Disk.sector_count g.D.Disk.moment g.D.Disk.left_since old disk c.fill_buffer.new.sectors _ c.requires.store c.in-Err.ensures.sectors long
-    (λ tells. base-partly s (place_of old.anchor old.ring old.positions.head) (first_part old.ring (item_of s)) cells (g.D.Disk.cells disk) (omega arith) (partly tells))
-    (λ tells image is. images tells image (IsImage-partly_written (place_of old.anchor old.ring old.positions.head) (first_part old.ring (item_of s)) cells (g.D.Disk.cells disk) image (partly tells) is))
+    (λ tells. base-partly s (sector_of_position old.anchor old.ring old.positions.head) (first_part old.ring (item_of s)) cells (g.D.Disk.cells disk) (omega arith) (partly tells))
+    (λ tells image is. images tells image (IsImage-partly_written (sector_of_position old.anchor old.ring old.positions.head) (first_part old.ring (item_of s)) cells (g.D.Disk.cells disk) image (partly tells) is))
     (λ tells. leaves _ _ _ _ (half_written s cells) (ReplaysTo s cells)
     (subst (λ (cs : List Cell). Elapses (g.D.Disk.moment old.disk) (g.D.Disk.moment disk) (g.D.Disk.left_since old.disk) (g.D.Disk.left_since disk) (IsImage cs)) cells_is (c.in-Err.ensures.time tells))
     (images tells)))

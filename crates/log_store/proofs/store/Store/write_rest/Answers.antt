@@ -4,8 +4,8 @@ use Rattle.life_limits.specs.declared.TheConstants.{MAX_RECORD_SECTORS}
 use Rattle.life_bytes.specs.declared.sector.Sector.{Sector}
 use Rattle.disk_model.specs.Disk.{Arming, Cell, IsImage, Elapses, IsPartlyWritten, written}
 use Rattle.disk_model.specs.DiskLaws.{IsImage-partly_written, length-written}
-use Rattle.log_record.specs.Encoding.{encoded}
-use Rattle.log_image.specs.Step.{place_of}
+use Rattle.log_record.specs.Encoding.{encoded_record}
+use Rattle.log_image.specs.Step.{sector_of_position}
 use Rattle.log_image.specs.Writes.{first_part, rest_part}
 use Rattle.log_store.specs.declared.store.Store.{Store}
 use Rattle.log_store.specs.declared.store.Stage.{Stage}
@@ -52,13 +52,13 @@ returns-in-Ok-clause-goes g c =
     let pieces_is : take (old.count - c.straight-part.result) (drop c.straight-part.result c.deref.result.now) ≡ rest_part old.ring (item_of s) =
     ap (λ (l : List Sector). take (old.count - c.straight-part.result) (drop c.straight-part.result l)) c.deref.ensures.value
     ∙ ap (λ (n : ℕ). take (old.count - n) (drop n xs)) c.straight-part.ensures.left
-    ∙ rest_range xs (encoded (item_of s)) old.count k (omega (arith, fit.1)) flight.encoded in
+    ∙ rest_range xs (encoded_record (item_of s)) old.count k (omega (arith, fit.1)) flight.encoded in
     let cells_is : (tells : IsTrue g.D.Disk.known) → written (old.anchor + 1) (take (old.count - c.straight-part.result) (drop c.straight-part.result c.deref.result.now)) cells ≡ fully_written s (held tells).0 = λ tells.
     ap (λ (l : List Sector). written (old.anchor + 1) l cells) pieces_is ∙ ap (λ (cs : List Cell). written (old.anchor + 1) (rest_part old.ring (item_of s)) cs) (held tells).2 in
     let ring_some : 0 < old.ring = omega (arith, flight.room) in
     let before_fits : (tells : IsTrue g.D.Disk.known) → RingFits s (held tells).0 = λ tells. record {
       some = ring_some;
-      place = omega (arith, sound.place, g.met.D.Disk.cells_fit tells old.disk, ap length (held tells).2, length-written (place_of s.anchor s.ring s.head) (first_part s.ring (item_of s)) (held tells).0);
+      place = omega (arith, sound.place, g.met.D.Disk.cells_fit tells old.disk, ap length (held tells).2, length-written (sector_of_position s.anchor s.ring s.head) (first_part s.ring (item_of s)) (held tells).0);
     } in
     let base_half : (tells : IsTrue g.D.Disk.known) → base_of s cells ≡ base_of s (held tells).0 = λ tells.
     ap (base_of s) (held tells).2 ∙ c.flights.ensures.half_base s (held tells).0 (before_fits tells) in
@@ -70,7 +70,7 @@ returns-in-Ok-clause-goes g c =
     goes_written g.D.Disk.known g.D.Disk.cells g.D.Disk.sector_count g.D.Disk.moment g.D.Disk.left_since old disk old.sectors Record c.requires.store
     (record_force old.job (subst (λ (st : Stage). JobFits st old.job) c.requires.stage sound.job))
     c.in-Ok.ensures.sectors sound.buffer
-    (record { some = flight.some; batch = flight.batch; fits = flight.fits; size = flight.size; encoded = flight.encoded; room = flight.room; end = flight.end })
+    (record { some = flight.some; batch = flight.batch; fits = flight.fits; size = flight.size; encoded_record = flight.encoded; room = flight.room; end = flight.end })
     (λ tells. ((held tells).0, restaged tells, c.in-Ok.ensures.written tells ∙ cells_is tells))
     (λ tells. ap (base_of s) (c.in-Ok.ensures.written tells ∙ cells_is tells) ∙ c.flights.ensures.full_base s (held tells).0 (held tells).1 (before_fits tells) ∙ sym (base_half tells))
     (λ tells. leaves _ _ _ _ (fully_written s (held tells).0) (ReplaysTo s cells)
@@ -93,13 +93,13 @@ returns-in-Err-clause-goes g c =
     let pieces_is : take (old.count - c.straight-part.result) (drop c.straight-part.result c.deref.result.now) ≡ rest_part old.ring (item_of s) =
     ap (λ (l : List Sector). take (old.count - c.straight-part.result) (drop c.straight-part.result l)) c.deref.ensures.value
     ∙ ap (λ (n : ℕ). take (old.count - n) (drop n xs)) c.straight-part.ensures.left
-    ∙ rest_range xs (encoded (item_of s)) old.count k (omega (arith, fit.1)) flight.encoded in
+    ∙ rest_range xs (encoded_record (item_of s)) old.count k (omega (arith, fit.1)) flight.encoded in
     let cells_is : (tells : IsTrue g.D.Disk.known) → written (old.anchor + 1) (take (old.count - c.straight-part.result) (drop c.straight-part.result c.deref.result.now)) cells ≡ fully_written s (held tells).0 = λ tells.
     ap (λ (l : List Sector). written (old.anchor + 1) l cells) pieces_is ∙ ap (λ (cs : List Cell). written (old.anchor + 1) (rest_part old.ring (item_of s)) cs) (held tells).2 in
     let ring_some : 0 < old.ring = omega (arith, flight.room) in
     let before_fits : (tells : IsTrue g.D.Disk.known) → RingFits s (held tells).0 = λ tells. record {
       some = ring_some;
-      place = omega (arith, sound.place, g.met.D.Disk.cells_fit tells old.disk, ap length (held tells).2, length-written (place_of s.anchor s.ring s.head) (first_part s.ring (item_of s)) (held tells).0);
+      place = omega (arith, sound.place, g.met.D.Disk.cells_fit tells old.disk, ap length (held tells).2, length-written (sector_of_position s.anchor s.ring s.head) (first_part s.ring (item_of s)) (held tells).0);
     } in
     let base_half : (tells : IsTrue g.D.Disk.known) → base_of s cells ≡ base_of s (held tells).0 = λ tells.
     ap (base_of s) (held tells).2 ∙ c.flights.ensures.half_base s (held tells).0 (before_fits tells) in
@@ -141,7 +141,7 @@ returns-in-Ok-clause-call g c =
     let cells = g.D.Disk.cells old.disk in
     let disk = c.write.new.self in
     let fit : IsInFlight s old.sectors.items old.count × (old.ring - old.positions.head % old.ring < old.count) = subst (λ (st : Stage). StageFits st s old.sectors.items old.count) c.requires.stage c.requires.store.sound.stage in
-    let pieces_is = rest_pieces old.ring old.positions.head old.count c.straight-part.result old.sectors.items (encoded (item_of s)) c.deref.result.now c.deref.ensures.value c.straight-part.ensures.left fit.1 fit.0.encoded in
+    let pieces_is = rest_pieces old.ring old.positions.head old.count c.straight-part.result old.sectors.items (encoded_record (item_of s)) c.deref.result.now c.deref.ensures.value c.straight-part.ensures.left fit.1 fit.0.encoded in
     half_call g.D.Disk.known g.D.Disk.cells g.D.Disk.arming _ old.stage old.job s old.disk disk c.requires.stage
     (λ tells. c.in-Ok.ensures.written tells ∙ ap (λ (l : List Sector). written (old.anchor + 1) l cells) pieces_is, c.in-Ok.ensures.arming)
 
@@ -152,7 +152,7 @@ returns-in-Err-clause-call g c =
     let cells = g.D.Disk.cells old.disk in
     let disk = c.write.new.self in
     let fit : IsInFlight s old.sectors.items old.count × (old.ring - old.positions.head % old.ring < old.count) = subst (λ (st : Stage). StageFits st s old.sectors.items old.count) c.requires.stage c.requires.store.sound.stage in
-    let pieces_is = rest_pieces old.ring old.positions.head old.count c.straight-part.result old.sectors.items (encoded (item_of s)) c.deref.result.now c.deref.ensures.value c.straight-part.ensures.left fit.1 fit.0.encoded in
+    let pieces_is = rest_pieces old.ring old.positions.head old.count c.straight-part.result old.sectors.items (encoded_record (item_of s)) c.deref.result.now c.deref.ensures.value c.straight-part.ensures.left fit.1 fit.0.encoded in
     subst (λ (x : Store g.row.D.Denot). Made g.D.Disk.known g.D.Disk.cells g.D.Disk.arming (call_at old.stage old.job (gathered s (state_of x))) (Err WriteFault) old.disk x.disk) (sym c.go_down.ensures)
     (half_call g.D.Disk.known g.D.Disk.cells g.D.Disk.arming (Err WriteFault) old.stage old.job s old.disk disk c.requires.stage
     (λ tells. subst (λ (l : List Sector). IsPartlyWritten (old.anchor + 1) l cells (g.D.Disk.cells disk)) pieces_is (c.in-Err.ensures.failed tells), c.in-Err.ensures.arming))
