@@ -3,11 +3,11 @@
 
 mod group;
 mod laws;
-mod table;
+mod group_table;
 
 pub use group::{Group, begin_group};
 pub use laws::{histories_lead_to_one_table, legal_events_happen_unheld};
-pub use table::{GroupTable, Staged};
+pub use group_table::{GroupTable, Staged};
 
 #[cfg(test)]
 mod tests;

@@ -10,7 +10,7 @@ ghost use Rattle.image_rules.specs.Counted.{HasTables, IsCounted};
 ghost use Rattle.image_rules.specs.Faults.{AreChecked, IsCaused, IsEarlier, IsDamage, IsChecked, IsOutside};
 
 use crate::fault::{CheckFault, Damage};
-use crate::space::check_group;
+use crate::one_group::check_group;
 use crate::tables::Tables;
 use disk_model::View;
 use geometry::Geometry;

@@ -12,7 +12,7 @@ mod links;
 mod lists;
 mod pages;
 mod reading;
-mod space;
+mod one_group;
 mod tables;
 mod taken;
 
@@ -21,7 +21,7 @@ pub use fault::CheckFault;
 pub use headers::right_header;
 pub use inodes::{right_blocks, right_core};
 pub use pages::{has_counts, right_leaf};
-pub use space::check_group;
+pub use one_group::check_group;
 pub use tables::Tables;
 
 #[cfg(test)]

@@ -14,7 +14,7 @@ ghost use Rattle.recovery.specs.Replay.{AreUsedUp, BeginsAnew, HasDeviceCause, I
 
 use crate::found::Found;
 use crate::homes::HomeImages;
-use crate::reading::anchor_of;
+use crate::scanning::anchor_of;
 use crate::start::{ReplayFault, Start, start_behind};
 use disk_model::Disk;
 use geometry::Geometry;

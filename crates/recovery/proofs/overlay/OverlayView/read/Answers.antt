@@ -3,7 +3,7 @@ use Rattle.std.specs.Option.{option_copied}
 use Rattle.disk_model.specs.Disk.{as_read}
 use Rattle.disk_model.specs.DiskLaws.{length-as_read}
 use Rattle.recovery.proofs.Shown.{overlaid_other, overlaid_some}
-use Rattle.recovery.proofs.replayed.OverlayView.read.Goals as goal
+use Rattle.recovery.proofs.overlay.OverlayView.read.Goals as goal
 
 pub returns-in-Some-clause-read : goal.returns-in-Some-clause-read
 returns-in-Some-clause-read g c known =

@@ -13,7 +13,7 @@ use Rattle.image_rules.specs.Listing.{AllNoted}
 use Rattle.image_rules.proofs.Bitmapping.{left_is_free}
 use Rattle.image_rules.proofs.Firsts.{core_fault, bitmap_fault, fork_first, blocks_first, cores_hold, forks_hold, blocks_hold, up_to_bitmap}
 use Rattle.image_rules.proofs.Outcomes.{passed_up}
-use Rattle.image_rules.proofs.space.check_space.Goals as goal
+use Rattle.image_rules.proofs.one_group.check_space.Goals as goal
 
 pub returns-in_err-found-clause-damaged : goal.returns-in_err-found-clause-damaged
 returns-in_err-found-clause-damaged g c known =

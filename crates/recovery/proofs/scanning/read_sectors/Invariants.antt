@@ -1,7 +1,7 @@
 use Rattle.std.proofs.Common.{◌≡◌, IsTrue, length, take, drop}
 use Rattle.disk_model.specs.Disk.{as_read}
 use Rattle.disk_model.specs.View.{OnlyRead}
-use Rattle.recovery.proofs.reading.read_sectors.Given as goal
+use Rattle.recovery.proofs.scanning.read_sectors.Given as goal
 
 abbrev pub invariant-loop-i : goal.invariant-loop-i
 invariant-loop-i g l = record {

@@ -5,7 +5,7 @@ use Rattle.disk_model.specs.Disk.{as_read}
 use Rattle.log_image.specs.Anchor.{HasAnchor}
 use Rattle.log_image.specs.Log.{ring_part}
 use Rattle.recovery.proofs.Read.{tells}
-use Rattle.recovery.proofs.reading.scan.Goals as goal
+use Rattle.recovery.proofs.scanning.scan.Goals as goal
 
 pub returns-clause-damaged : goal.returns-clause-damaged
 returns-clause-damaged g c known =

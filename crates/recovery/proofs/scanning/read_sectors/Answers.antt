@@ -3,7 +3,7 @@ use Rattle.life_bytes.specs.declared.sector.Sector.{Sector}
 use Rattle.disk_model.specs.Disk.{Cell, as_read}
 use Rattle.disk_model.specs.View.{OnlyRead-both}
 use Rattle.recovery.proofs.Read.{one_more}
-use Rattle.recovery.proofs.reading.read_sectors.Goals as goal
+use Rattle.recovery.proofs.scanning.read_sectors.Goals as goal
 
 pub loop-i-preserved : goal.loop-i-preserved
 loop-i-preserved g c =

@@ -1,6 +1,6 @@
 use Rattle.image_rules.specs.Faults.{FaultIn, IsCaused}
 use Rattle.image_rules.proofs.Outcomes.{passed_up}
-use Rattle.image_rules.proofs.space.check_group.Goals as goal
+use Rattle.image_rules.proofs.one_group.check_group.Goals as goal
 
 pub returns-in_err-check_lists-clause-read_fault : goal.returns-in_err-check_lists-clause-read_fault
 returns-in_err-check_lists-clause-read_fault g c =
