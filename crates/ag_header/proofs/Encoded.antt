@@ -1,4 +1,4 @@
--- The header_fields of a sector that encodes a header are the header's.
+-- The fields of a sector that encodes a header are the header's.
 use Rattle.std.proofs.Common.{◌≡◌, ◌<◌, ◌+◌, ◌-◌, ◌*◌, ◌^◌, ℕ, true, Some, List, length, take, drop, get_or, set, refl, sym, ap, subst, ◌∙◌, arith, lit≤, inl, inr, length-set, get_or-set_same, get_or-set_other}
 use Rattle.std.proofs.lemmas.List.FromFn.{length-map-range_with_len, get_or-map-range_with_len}
 use Rattle.std.proofs.lemmas.List.{take-take, drop-take, drop-drop, same_lists, get_or_default, set_past}
@@ -36,7 +36,7 @@ rows agi fits =
       ),
     )
 
--- what the header_fields of an encoded header say
+-- what the fields of an encoded header say
 pub record Says (agi : Agi) (bytes : List ℕ) : Type 0 where
   pub group : field 4 8 bytes ≡ agi.group
   pub blocks : field 4 12 bytes ≡ agi.blocks
@@ -73,7 +73,7 @@ says agi is fits =
       uuid = sealed_row 312 t 11 (piece 296 16 agi.uuid) ok (lit≤ tt) refl refl;
     }
 
--- the header_fields put in one after the other
+-- the fields put in one after the other
 pub put_in_turn : (agi : Agi) (z heads b0 b1 b2 b3 b4 b5 b6 b7 b8 b9 b10 b11 : List ℕ) → length heads ≡ 256 → length agi.uuid ≡ 16 → z ≡ blank
     → b0 ≡ with_field 4 0 0x58414749 z
     → b1 ≡ with_field 4 4 1 b0
@@ -107,7 +107,7 @@ same a b group blocks count root level free heads uuid =
     ∙ ap (λ (x : List ℕ). made b.group b.blocks b.count b.root b.level b.free x a.uuid) heads
     ∙ ap (λ (x : List ℕ). made b.group b.blocks b.count b.root b.level b.free b.heads x) uuid
 
--- what the header_fields of these bytes give is what the bytes encode
+-- what the fields of these bytes give is what the bytes encode
 pub is_read : (read agi : Agi) (bytes : List ℕ) → read.group ≡ field 4 8 bytes → read.blocks ≡ field 4 12 bytes → read.count ≡ field 4 16 bytes → read.root ≡ field 4 20 bytes
     → read.level ≡ field 4 24 bytes → read.free ≡ field 4 28 bytes → length read.heads ≡ 64 → ((k : ℕ) → k < 64 → get_or read.heads k 0 ≡ field 4 (40 + 4 * k) bytes)
     → read.uuid ≡ take 16 (drop 296 bytes) → EncodesHeader bytes agi → read ≡ agi

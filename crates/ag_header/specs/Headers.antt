@@ -11,7 +11,7 @@ pub record IsAgi (agi : Agi) : Type 0 where
   pub root : (FIRST_PAGE_BLOCK ≤ agi.root) × (agi.root ≤ LAST_PAGE_BLOCK)
   pub level : (1 ≤ agi.level) × (agi.level ≤ MAX_LEVEL)
 
--- the header_fields have their widths
+-- the fields have their widths
 pub record FieldsFit (agi : Agi) : Type 0 where
   pub group : agi.group < 2 ^ 32
   pub blocks : agi.blocks < 2 ^ 32

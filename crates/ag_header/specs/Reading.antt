@@ -18,7 +18,7 @@ agi_in bytes = record {
   uuid = take 16 (drop 296 bytes);
 }
 
--- What is encoded is read, so no sector encodes two headers; and a header's header_encoding is a sector that encodes it.
+-- What is encoded is read, so no sector encodes two headers; and a header's encoding is a sector that encodes it.
 pub record HeadersAreRead : Type 0 where
   pub read : (bytes : List ℕ) (agi : Agi) → EncodesHeader bytes agi → agi_in bytes ≡ agi
   pub encoded : (agi : Agi) → IsAgi agi → FieldsFit agi → EncodesHeader (header_encoding agi) agi

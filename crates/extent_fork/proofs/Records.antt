@@ -1,4 +1,4 @@
--- The extent_records of a fork, one after the other.
+-- The records of a fork, one after the other.
 use Rattle.std.proofs.Common.{◌≡◌, ◌≤◌, ◌<◌, ◌+◌, ◌-◌, ◌*◌, ◌/◌, ◌%◌, ◌^◌, ℕ, zero, suc, List, [], ◌∷◌, ◌++◌, length, take, drop, get_or, replicate, refl, sym, ap, ◌∙◌, arith, append_assoc}
 use Rattle.std.specs.List.{AllByRecursion}
 use Rattle.std.proofs.lemmas.List.{drop_more, drop_all, take_all, take_more, take_at, drop_at, drop-drop, append-nil, length-append, same_lists, take-append-drop, length-take-le}
@@ -96,7 +96,7 @@ total_small (run ∷ list) all =
     let one = all.0 in
     omega (arith, one.end)
 
--- the extent_records from an index on
+-- the records from an index on
 drop-records : (g off : ℕ) (list : List Extent) (i : ℕ) (rest : List ℕ) → i ≤ length list → drop (16 * i) (extent_records g off list ++ rest) ≡ extent_records g (off + total (take i list)) (drop i list) ++ rest
 unfolding total extent_records
 drop-records g off list zero rest le = let e : off ≡ off + 0 = omega arith in ap (λ (o : ℕ). extent_records g o list ++ rest) e

@@ -13,12 +13,12 @@ use Rattle.extent_fork.specs.Runs.{run_end, AreApart}
 abbrev pub record_number : ℕ → ℕ → Extent → ℕ
 record_number group offset run = (offset * 2 ^ 52 + (group * MAX_BLOCKS + run.start)) * 2 ^ 21 + run.count
 
--- the extent_records of runs that follow each other in the file from an offset on
+-- the records of runs that follow each other in the file from an offset on
 unfoldable pub extent_records : ℕ → ℕ → List Extent → List ℕ
 extent_records group offset [] = []
 extent_records group offset (run ∷ runs) = big_bytes 16 (record_number group offset run) ++ extent_records group (offset + run.count) runs
 
--- the fork that encodes the runs: their extent_records, and zeros
+-- the fork that encodes the runs: their records, and zeros
 unfoldable pub fork : ℕ → List Extent → List ℕ
 fork group runs = extent_records group 0 runs ++ zeros (336 - 16 * length runs)
 
@@ -33,7 +33,7 @@ pub record AreRuns (list : List Extent) : Type 0 where
   pub each : AllByRecursion IsRun list
   pub apart : AreApart list
 
--- the sector has a fork of so many extent_records, which are these runs of the group
+-- the sector has a fork of so many records, which are these runs of the group
 pub record HasFork (bytes : List ℕ) (count group : ℕ) (list : List Extent) : Type 0 where
   pub runs : AreRuns list
   pub many : length list ≡ count

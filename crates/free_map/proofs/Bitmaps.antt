@@ -97,7 +97,7 @@ is_free-read bytes n b is =
       | inr past ↦ get_or_past (read_blocks bytes n) b false (omega (arith, past, length-map-range_with_len (says_free bytes) 0 n)) ∙ sym (is.clear b past)
     ]
 
--- no set block_bit two bitmaps
+-- no set has two bitmaps
 pub bitmap-read_blocks : (bytes : List ℕ) (n : ℕ) → IsBitmap bytes n → bitmap (read_blocks bytes n) ≡ bytes
 bitmap-read_blocks bytes n is =
     same_lists (bitmap (read_blocks bytes n)) bytes (length-bitmap (read_blocks bytes n) ∙ sym is.long)

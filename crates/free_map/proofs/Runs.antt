@@ -22,7 +22,7 @@ full_from_run words n free b kept run i l =
     let e : bit_at (get_or words ((b + i) / 64) 0) ((b + i) % 64) ≡ 1 = eqb-true _ _ (sym (is_free_kept words n free (b + i) kept) ∙ run.1 i l) in
     rw (← word, ← bit) e
 
--- no run below the lowest full byte of the first word that block_bit one
+-- no run below the lowest full byte of the first word that has one
 pub lowest_run : (words : List ℕ) (n free w k : ℕ) → AreMapWords words n free → k < 8
     → ((v : ℕ) → v < w → (j : ℕ) → j < 8 → ¬ IsFull (get_or words v 0) j)
     → ((j : ℕ) → j < 8 → IsFull (get_or words w 0) j → k ≤ j)

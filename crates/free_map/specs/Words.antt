@@ -17,7 +17,7 @@ places base word = filter (λ b. is_set word (b - base)) (range_with_len base 64
 abbrev pub map_blocks : List ℕ → ℕ → List Bool
 map_blocks words n = map (block_bit words) (range_with_len 0 n)
 
--- byte k of a word block_bit its 8 bits set
+-- byte k of a word has its 8 bits set
 abbrev pub IsFull : ℕ → ℕ → Type 0
 IsFull word k = (i : ℕ) → i < 8 → bit_at word (8 * k + i) ≡ 1
 

@@ -51,7 +51,7 @@ none_passes p (x ∷ xs) j d nothing h = split (p x) refl j h nothing (λ i l e.
     split false e zero h nothing rest = e
     split false e (suc j) h nothing rest = rest j (omega arith) nothing
 
--- a test that chunk_holds of a front and of nothing behind it
+-- a test that holds of a front and of nothing behind it
 pub filter_front : {X : Type 0} (p : X → Bool) (xs : List X) (n : ℕ) → ((k : ℕ) (d : X) → k < n → k < length xs → p (get_or xs k d) ≡ true)
     → ((k : ℕ) (d : X) → n ≤ k → k < length xs → p (get_or xs k d) ≡ false) → filter p xs ≡ take n xs
 filter_front p [] zero front behind = refl
@@ -72,7 +72,7 @@ filter_back {X = X} p (x ∷ xs) zero front behind =
 filter_back p (x ∷ xs) (suc n) front behind =
     cond-false _ _ _ (front 0 x (omega arith) (omega arith)) ∙ filter_back p xs n (λ k d h l. front (suc k) d (omega arith) (omega arith)) (λ k d h l. behind (suc k) d (omega arith) (omega arith))
 
--- a chunk chunk_holds its first inode
+-- a chunk holds its first inode
 holds_own : (chunk : ChunkRec) (start : ℕ) → chunk.start ≡ start → chunk_holds start chunk ≡ true
 holds_own chunk start e = and_from _ _ (le-leb chunk.start start (omega (arith, e))) (lt-ltb start (chunk.start + 64) (omega (arith, e)))
 

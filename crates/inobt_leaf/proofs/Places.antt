@@ -29,7 +29,7 @@ pub find-none : {X : Type 0} (p : X → Bool) (xs : List X) (d : X) → ((j : �
 find-none p [] d none = refl
 find-none p (x ∷ xs) d none = cond-false _ _ _ (none 0 (omega arith)) ∙ find-none p xs d (λ j l. none (suc j) (omega arith))
 
--- what it means that a chunk chunk_holds an inode
+-- what it means that a chunk holds an inode
 pub held_by : (agino : ℕ) (chunk : ChunkRec) → chunk_holds agino chunk ≡ true → (chunk.start ≤ agino) × (agino < chunk.start + 64)
 held_by agino chunk held =
     let both = and_parts (leb chunk.start agino) (ltb agino (chunk.start + 64)) held in
@@ -60,7 +60,7 @@ after_holds chunks agino k d leaf held j l h =
     let other = (All-get_or IsChunkRecord chunks j d h leaf.each).aligned in
     not_held_before agino (get_or chunks j d) (omega (arith, up, mine, other, here))
 
--- the one chunk that chunk_holds the inode is changed
+-- the one chunk that holds the inode is changed
 pub map-where_held : (chunks : List ChunkRec) (agino k : ℕ) (d : ChunkRec) (change : ChunkRec → ChunkRec) → IsLeaf chunks → k < length chunks
     → chunk_holds agino (get_or chunks k d) ≡ true → set chunks k (change (get_or chunks k d)) ≡ map (where_held agino change) chunks
 map-where_held chunks agino k d change leaf h held =
@@ -82,7 +82,7 @@ map-where_held chunks agino k d change leaf h held =
           ∙ sym (get_or-map (where_held agino change) chunks j d d within ∙ cond-false _ _ _ other)
     ])
 
--- what `find` gave is at the place that chunk_holds it
+-- what `find` gave is at the place that holds it
 pub found_at : (chunks : List ChunkRec) (agino k : ℕ) (d : ChunkRec) (P : ChunkRec → Type 0) → IsLeaf chunks → k < length chunks → chunk_holds agino (get_or chunks k d) ≡ true
     → IsSomeAnd (find (chunk_holds agino) chunks) P → P (get_or chunks k d)
 found_at chunks agino k d P leaf h held found =

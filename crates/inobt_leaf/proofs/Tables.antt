@@ -48,7 +48,7 @@ AreRows-records size place [] h = tt
 AreRows-records size place (x ∷ xs) h =
     AreRows-append size (chunk_rows place x) (chunk_records (place + 16) xs) (AreRows-chunk size place x (omega arith)) (AreRows-records size (place + 16) xs (omega arith))
 
--- the chunk_records have no byte before their place
+-- the records have no byte before their place
 pub IsAside-records : (at n place : ℕ) (chunks : List ChunkRec) → at + n ≤ place → IsAside at n (chunk_records place chunks)
 IsAside-records at n place [] h = tt
 IsAside-records at n place (x ∷ xs) h =

@@ -43,7 +43,7 @@ number_among before mid after k at n v a b c found aside apart beside small =
     sealed_other 52 bytes n at (omega (arith, long)) beside
     ∙ row_among before mid after k (number at n v) blank_page (in_page before a) (in_page mid b) (in_page after c) found aside apart)
 
--- the count in the page_header
+-- the count in the header
 pub count_says : (chunks : List ChunkRec) (group at : ℕ) (uuid : List ℕ) → length uuid ≡ 16 → length chunks ≤ 252
     → field 2 6 (page_encoding chunks group at uuid) ≡ length chunks
 unfolding page_encoding

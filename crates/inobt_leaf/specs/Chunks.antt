@@ -33,7 +33,7 @@ after_take agino chunk = record chunk { free = chunk.free - 1; mask = without_bi
 abbrev pub after_give : ℕ → ChunkRec → ChunkRec
 after_give agino chunk = record chunk { free = chunk.free + 1; mask = with_bit chunk.mask (agino - chunk.start) }
 
--- the chunk that chunk_holds the inode is changed, and the others stay
+-- the chunk that holds the inode is changed, and the others stay
 abbrev pub where_held : ℕ → (ChunkRec → ChunkRec) → ChunkRec → ChunkRec
 where_held agino change chunk = if chunk_holds agino chunk then change chunk else chunk
 

@@ -14,7 +14,7 @@ page_magic = 0x4941_4233
 abbrev pub no_sibling : ℕ
 no_sibling = 0xFFFF_FFFF
 
--- the page_header of a leaf of so many chunk_records, of a group, whose first sector has this place in the image; the level and
+-- the header of a leaf of so many records, of a group, whose first sector has this place in the image; the level and
 -- the lsn are zero
 abbrev pub page_header : ℕ → ℕ → ℕ → List ℕ → List Field
 page_header count group at uuid =
@@ -35,7 +35,7 @@ chunk_rows place chunk =
     ∷ number (place + 8) 8 chunk.mask
     ∷ []
 
--- the chunk_records from a place on
+-- the records from a place on
 abbrev pub chunk_records : ℕ → List ChunkRec → List Field
 chunk_records place [] = []
 chunk_records place (chunk ∷ chunks) = chunk_rows place chunk ++ chunk_records (place + 16) chunks
@@ -52,6 +52,6 @@ page_encoding chunks group at uuid = sealed 52 (placed (page_header (length chun
 abbrev pub chunk_at : List ℕ → ℕ → ChunkRec
 chunk_at bytes place = record { start = field 4 place bytes; free = field 4 (place + 4) bytes; mask = field 8 (place + 8) bytes }
 
--- the chunks that a page's chunk_records give, whatever else the page holds
+-- the chunks that a page's records give, whatever else the page holds
 abbrev pub chunks_in : List ℕ → List ChunkRec
 chunks_in bytes = map (λ i. chunk_at bytes (56 + 16 * i)) (range_with_len 0 (field 2 6 bytes))

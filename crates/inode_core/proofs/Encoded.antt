@@ -1,4 +1,4 @@
--- The core_fields of a sector that encodes a core are the core's.
+-- The fields of a sector that encodes a core are the core's.
 use Rattle.std.proofs.Common.{◌≡◌, ◌^◌, ◌<◌, ℕ, Bool, true, false, eqb, List, [], ◌∷◌, ◌++◌, length, take, drop, refl, sym, ap, ◌∙◌, arith, lit≤, lit<}
 use Rattle.std.proofs.lemmas.List.{take_all, length-drop}
 use Rattle.life_bytes.specs.Fields.{field, with_field, with_piece}
@@ -54,7 +54,7 @@ live_from_mode : (b : Bool) → eqb (mode_of b) 0x81A4 ≡ b
 live_from_mode true = refl
 live_from_mode false = refl
 
--- what the core_fields of an encoded core say
+-- what the fields of an encoded core say
 pub record Says (core : Core) (bytes : List ℕ) : Type 0 where
   pub mode : eqb (field 2 2 bytes) 0x81A4 ≡ core.live
   pub links : field 4 16 bytes ≡ core.links
@@ -100,7 +100,7 @@ whole_fork bytes size = take_all 336 (drop 176 bytes) (omega (arith, length-drop
 pub one_sector : (a b : List ℕ) (ino : ℕ) (uuid : List ℕ) (core : Core) → EncodesCore a ino uuid core → EncodesCore b ino uuid core → fork_of a ≡ fork_of b → a ≡ b
 one_sector a b ino uuid core left right same = left.sector ∙ ap (core_encoding core ino uuid) same ∙ sym right.sector
 
--- the core_fields put in one after the other
+-- the fields put in one after the other
 pub put_in_turn : (core : Core) (ino : ℕ) (uuid z b0 b1 b2 b3 b4 b5 b6 b7 b8 b9 b10 b11 : List ℕ) → length uuid ≡ 16 → z ≡ blank
     → b0 ≡ with_field 2 0 0x494E z
     → b1 ≡ with_field 2 2 (mode_of core.live) b0
@@ -155,7 +155,7 @@ same a b live links size blocks extents generation next =
     ∙ ap (λ (x : ℕ). made b.live b.links b.size b.blocks b.extents x a.next) generation
     ∙ ap (λ (x : ℕ). made b.live b.links b.size b.blocks b.extents b.generation x) next
 
--- what the core_fields of these bytes give is what the bytes encode
+-- what the fields of these bytes give is what the bytes encode
 pub is_read : (read core : Core) (ino : ℕ) (bytes uuid : List ℕ) → length uuid ≡ 16 → length bytes ≡ 512 → read.live ≡ eqb (field 2 2 bytes) 0x81A4 → read.links ≡ field 4 16 bytes
     → read.size ≡ field 8 56 bytes → read.blocks ≡ field 8 64 bytes → read.extents ≡ field 4 76 bytes → read.generation ≡ field 4 92 bytes → read.next ≡ field 4 96 bytes
     → EncodesCore bytes ino uuid core → read ≡ core

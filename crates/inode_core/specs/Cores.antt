@@ -4,7 +4,7 @@ use Rattle.life_limits.specs.declared.TheConstants.{BLOCK_BYTES, MAX_LINKS, MAX_
 use Rattle.life_bytes.specs.Pieces.{Field, number, piece, placed, zeros, blank, sealed}
 use Rattle.inode_core.specs.declared.shape.Core.{Core}
 
--- the core_fields of an inode in use
+-- the fields of an inode in use
 pub record IsLive (core : Core) : Type 0 where
   pub links : core.links ≤ MAX_LINKS
   pub size : core.size ≡ core.blocks * BLOCK_BYTES
@@ -13,7 +13,7 @@ pub record IsLive (core : Core) : Type 0 where
   pub generation : (1 ≤ core.generation) × (core.generation < MAX_GENERATION)
   pub next : core.next ≤ NO_INODE
 
--- the core_fields of a free inode
+-- the fields of a free inode
 pub record IsFree (core : Core) : Type 0 where
   pub links : core.links ≡ 0
   pub size : core.size ≡ 0
@@ -22,7 +22,7 @@ pub record IsFree (core : Core) : Type 0 where
   pub generation : (1 ≤ core.generation) × (core.generation ≤ MAX_GENERATION)
   pub next : core.next ≡ NO_INODE
 
--- the core_fields that a core may have
+-- the fields that a core may have
 pub record IsCore (core : Core) : Type 0 where
   pub live : core.live ≡ true → IsLive core
   pub free : core.live ≡ false → IsFree core

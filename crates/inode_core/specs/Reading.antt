@@ -23,7 +23,7 @@ pub record CanStand (core : Core) (uuid fork : List ℕ) : Type 0 where
   pub long : length fork ≡ 336
   pub free : core.live ≡ false → fork ≡ no_fork
 
--- What is encoded is read, and no sector encodes two cores. The core_encoding of a core before a fork is a sector that encodes it and has that fork.
+-- What is encoded is read, and no sector encodes two cores. The encoding of a core before a fork is a sector that encodes it and has that fork.
 pub record CoresAreRead : Type 0 where
   pub read : (bytes uuid : List ℕ) (ino : ℕ) (core : Core) → length bytes ≡ 512 → length uuid ≡ 16 → EncodesCore bytes ino uuid core → core_in bytes ≡ core
   pub encoded : (core : Core) (ino : ℕ) (uuid fork : List ℕ) → CanStand core uuid fork → EncodesCore (core_encoding core ino uuid fork) ino uuid core

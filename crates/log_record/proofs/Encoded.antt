@@ -1,4 +1,4 @@
--- Sectors whose stamps and payload are those of a record are what the record is encoded_record as.
+-- Sectors whose stamps and payload are those of a record are what the record is encoded as.
 use Rattle.std.proofs.Common.{◌≡◌, ℕ, zero, suc, ◌+◌, ◌-◌, ◌*◌, ◌<◌, ◌≤◌, List, [], ◌∷◌, ◌++◌, length, take, drop, get_or, map, replicate, refl, sym, ap, ◌∙◌, arith, append_assoc, subst}
 use Rattle.std.specs.List.{flat_map, All}
 use Rattle.std.proofs.Math.Seq.{drop-append-add}
@@ -122,11 +122,11 @@ pub stamped_is : (position first : ℕ)
 unfolding stamps
 stamped_is position first = refl
 
--- the record_header of a record
+-- the header of a record
 abbrev pub header_of : LogRecord → List ℕ
 header_of item = record_header item.tail item.first item.commits (length item.images)
 
--- the fields of a record_header, written one after the other
+-- the fields of a header, written one after the other
 pub header_is : (tail first commits images : ℕ) → with_field 4 24 (sector_count images) (with_field 4 20 images
     (with_field 4 16 commits (with_field 8 8 first (with_field 8 0 tail (replicate 32 0))))) ≡ record_header tail first commits images
 unfolding record_header

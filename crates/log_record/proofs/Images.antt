@@ -8,7 +8,7 @@ use Rattle.log_record.specs.declared.image.Image.{Image}
 use Rattle.log_record.specs.Encoding.{FitsImage, record_header, image_bytes}
 use Rattle.log_record.proofs.Encoded.{length-image_bytes}
 
--- each number of a record_header is read where it stands
+-- each number of a header is read where it stands
 pub header_tail : (t f c m : ℕ) → t < 2 ^ 64 → field 8 0 (record_header t f c m) ≡ t
 unfolding record_header
 header_tail t f c m h = big_number-reads_back 8 t (drop 8 (record_header t f c m)) h

@@ -137,7 +137,7 @@ whole_holds ring position item at bytes is held fits =
     ap (λ (l : List ℕ). take (length bytes) (drop at l)) (sym (whole_payload ring position item is))
     ∙ held (count_of item) (whole_sectors ring position item is) fits
 
--- the numbers of a record's record_header
+-- the numbers of a record's header
 pub record HasHeader (item : LogRecord) (t f c m : ℕ) : Type 0 where
   pub tail : item.tail ≡ t
   pub first : item.first ≡ f
@@ -213,7 +213,7 @@ whole_from_parts ring item form fits room whole stamped held =
           ∙ ap (λ (l : List Sector). get_or l i none) is ∙ get_or-encoded item i none h;
     }
 
--- a whole record's record_header, as its bytes were read
+-- a whole record's header, as its bytes were read
 pub whole_numbers : (ring : List Sector) (position : ℕ) (item : LogRecord) (bytes : List ℕ) (h : Header) → IsWholeAt ring position item
     → HoldsPayload ring position 0 bytes → length bytes ≡ 32 → bytes ≡ header_bytes h → IsRecordHeader h
     → HasHeader item h.tail h.first h.commits h.images
@@ -222,7 +222,7 @@ whole_numbers ring position item bytes h is held size same form =
     same_header item h.tail h.first h.commits h.images is.form is.fits form.tail form.first form.commits images
     (whole_header ring position item bytes is held size ∙ same)
 
--- the numbers of a record's record_header
+-- the numbers of a record's header
 abbrev pub header_from : LogRecord → Header
 header_from item = record { tail = item.tail; first = item.first; commits = item.commits; images = length item.images }
 
@@ -258,7 +258,7 @@ homes_of images = map (λ (image : Image). image.home) images
 abbrev pub read_as : ℕ → Header → List Image → LogRecord
 read_as position h images = record { position = position; tail = h.tail; first = h.first; commits = h.commits; images = images }
 
--- the record_header, the images and the filling are the payload
+-- the header, the images and the filling are the payload
 pub payload_held : (ring : List Sector) (position : ℕ) (h : Header) (images : List Image) → length images ≡ h.images → All FitsImage images
     → HoldsPayload ring position 0 (header_bytes h) → HoldsPayload ring position 32 (flat_map image_bytes images)
     → HoldsPayload ring position (32 + 520 * h.images) (filling h.images)

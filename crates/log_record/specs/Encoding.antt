@@ -1,4 +1,4 @@
--- How a record of the log is encoded_record: as a list of log sectors.
+-- How a record of the log is encoded: as a list of log sectors.
 use Rattle.std.specs.Prelude.{ℕ, ◌+◌, ◌*◌, ◌-◌, ◌/◌, ◌^◌, ◌<◌, ◌≤◌, ◌≡◌, List, ◌++◌, length, take, drop, map, replicate}
 use Rattle.std.specs.List.{flat_map, range_with_len, All}
 use Rattle.std.specs.List.Sorted.{IsStrictlyIncreasing}
@@ -9,7 +9,7 @@ use Rattle.life_bytes.specs.declared.sector.Sector.{Sector}
 use Rattle.log_record.specs.declared.image.Image.{Image}
 use Rattle.log_record.specs.declared.record.LogRecord.{LogRecord}
 
--- the sectors of a record of m images: 32 bytes of record_header and 520 for each image, 496 in a sector, rounded up
+-- the sectors of a record of m images: 32 bytes of header and 520 for each image, 496 in a sector, rounded up
 abbrev pub sector_count : ℕ → ℕ
 sector_count m = (32 + 520 * m + 495) / 496
 
@@ -23,7 +23,7 @@ record_header tail first commits images =
 unfoldable pub image_bytes : Image → List ℕ
 image_bytes image = big_bytes 8 image.home ++ image.sector.bytes
 
--- the record_header, the images, and zero to the end of the last sector
+-- the header, the images, and zero to the end of the last sector
 unfoldable pub payload : LogRecord → List ℕ
 payload item =
     let m = length item.images in

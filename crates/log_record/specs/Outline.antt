@@ -19,7 +19,7 @@ pub record IsRecordHeader (h : Header) : Type 0 where
 abbrev pub header_bytes : Header → List ℕ
 header_bytes h = record_header h.tail h.first h.commits h.images
 
--- a record with this record_header at this position has room in a ring of so many sectors
+-- a record with this header at this position has room in a ring of so many sectors
 pub record HasRoom (h : Header) (position ring : ℕ) : Type 0 where
   pub tail : h.tail ≤ position
   pub positions : position + sector_count h.images ≤ 2 ^ 64
@@ -40,5 +40,5 @@ pub record HasOutline (ring : List Sector) (position : ℕ) (h : Header) : Type 
   pub room : HasRoom h position (length ring)
   pub whole : AreSectors (window ring position (sector_count h.images))
   pub stamped : IsStamped ring position (sector_count h.images)
-  pub record_header : HoldsPayload ring position 0 (header_bytes h)
+  pub header : HoldsPayload ring position 0 (header_bytes h)
   pub filling : HoldsPayload ring position (32 + 520 * h.images) (filling h.images)

@@ -77,8 +77,8 @@ fn parse_header(bytes: &[u8; HEADER]) -> Option<Header>
 
 /// Whether a record with this header has room in a ring of so many sectors.
 fn has_room(header: &Header, position: u64, ring: usize) -> bool
-    requires { record_header.now.images ≤ MAX_IMAGES }
-    ensures { IsTrue result ↔ HasRoom record_header.now position ring }
+    requires { header.now.images ≤ MAX_IMAGES }
+    ensures { IsTrue result ↔ HasRoom header.now position ring }
 {
     let count = u64::from(record_sectors(header.images));
     let ring = ring as u64;

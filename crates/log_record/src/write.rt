@@ -110,7 +110,7 @@ fn put_image(into: &mut [Sector], at: usize, image: &Image)
 pub fn fill_images(numbers: &RecordNumbers, images: &[Image], into: &mut [Sector])
     requires form { IsRecord (record_of numbers.now images.now) }
     requires room { length into.old ≡ sector_count (length images.now) }
-    ensures encoded_record { into.new ≡ encoded_record (record_of numbers.now images.now) }
+    ensures encoded { into.new ≡ encoded_record (record_of numbers.now images.now) }
     ensures fits { FitsFields (record_of numbers.now images.now) }
 {
     stamp_all(into, numbers.position);
@@ -132,7 +132,7 @@ pub fn fill_images(numbers: &RecordNumbers, images: &[Image], into: &mut [Sector
 pub fn fill_record(item: &LogRecord, into: &mut [Sector])
     requires form { IsRecord item.now }
     requires room { length into.old ≡ sector_count (length item.now.images) }
-    ensures encoded_record { into.new ≡ encoded_record item.now }
+    ensures encoded { into.new ≡ encoded_record item.now }
     ensures fits { FitsFields item.now }
 {
     let numbers = RecordNumbers {
@@ -147,7 +147,7 @@ pub fn fill_record(item: &LogRecord, into: &mut [Sector])
 /// The sectors of a record.
 pub fn record_bytes(alloc: Global, item: &LogRecord) -> Result<Vec<Sector>, NoMemory>
     requires { IsRecord item.now }
-    ensures encoded_record { IfOk result (λ sectors. sectors.items ≡ encoded_record item.now) }
+    ensures encoded { IfOk result (λ sectors. sectors.items ≡ encoded_record item.now) }
     ensures fits { OnOk result (FitsFields item.now) }
 {
     let count = record_sectors(item.images.len() as u32);

@@ -25,7 +25,7 @@ pub record IsInFlight (s : State) (sectors : List Sector) (count : ℕ) : Type 0
   pub batch : IsTaken s.list s.taken s.batch
   pub fits : FitsFields (item_of s)
   pub size : count ≡ sector_count (length s.batch)
-  pub encoded_record : take count sectors ≡ encoded_record (item_of s)
+  pub encoded : take count sectors ≡ encoded_record (item_of s)
   pub room : (s.head - s.tail) + count + 1 ≤ s.ring
   pub end : s.head + count ≤ 2 ^ 63
 

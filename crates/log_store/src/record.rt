@@ -28,7 +28,7 @@ fn fill_front(into: &mut [Sector], numbers: &RecordNumbers, images: &[Image], co
     requires form { IsRecord (record_of numbers.now images.now) }
     requires size { count ≡ sector_count (length images.now) }
     requires room { count ≤ length into.old }
-    ensures encoded_record { take count into.new ≡ encoded_record (record_of numbers.now images.now) }
+    ensures encoded { take count into.new ≡ encoded_record (record_of numbers.now images.now) }
     ensures fits { FitsFields (record_of numbers.now images.now) }
 {
     fill_images(numbers, images, &mut into[..count]);
@@ -39,7 +39,7 @@ fn fill_buffer(sectors: &mut Vec<Sector>, numbers: &RecordNumbers, images: &[Ima
     requires form { IsRecord (record_of numbers.now images.now) }
     requires size { count ≡ sector_count (length images.now) }
     requires room { count ≤ length sectors.old.items }
-    ensures encoded_record { take count sectors.new.items ≡ encoded_record (record_of numbers.now images.now) }
+    ensures encoded { take count sectors.new.items ≡ encoded_record (record_of numbers.now images.now) }
     ensures fits { FitsFields (record_of numbers.now images.now) }
     ensures length { length sectors.new.items ≡ length sectors.old.items }
 {

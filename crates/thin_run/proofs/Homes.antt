@@ -12,7 +12,7 @@ pub homes-inode_image : (places : List ℕ) → map (λ (image : Image). image.h
 homes-inode_image [] = refl
 homes-inode_image (place ∷ places) = ap (λ (rest : List ℕ). place ∷ rest) (homes-inode_image places)
 
--- a record is encoded_record in as many sectors as its number of images asks for
+-- a record is encoded in as many sectors as its number of images asks for
 pub length-encoded : (item : LogRecord) → length (encoded_record item) ≡ sector_count (length item.images)
 unfolding encoded_record
 length-encoded item = length-map-range_with_len (record_sector item) 0 (sector_count (length item.images))

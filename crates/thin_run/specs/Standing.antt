@@ -13,7 +13,7 @@ use Rattle.thin_run.specs.Mount.{next_record}
 use Rattle.thin_run.specs.Table.{Table, key_at}
 use Rattle.thin_run.specs.CrashSafe.{IsPrefix}
 
--- the record of what is pending can be encoded_record
+-- the record of what is pending can be encoded
 pub record CanEncode (m : Mount) : Type 0 where
   pub form : IsRecord (next_record m)
   pub fits : FitsFields (next_record m)

@@ -163,7 +163,7 @@ impl Mount {
 
     /// The sectors of the record of all that is pending.
     fn encode_record(&self, alloc: Global) -> Result<Vec<Sector>, NoMemory>
-        ensures encoded_record { IfOk result (λ sectors. sectors.items ≡ encoded_record (next_record self.now)) }
+        ensures encoded { IfOk result (λ sectors. sectors.items ≡ encoded_record (next_record self.now)) }
         ensures count { IfOk result (λ sectors. length sectors.items ≡ sector_count (vec_len self.now.pending)) }
         ensures can { OnOk result (CanEncode self.now) }
     {

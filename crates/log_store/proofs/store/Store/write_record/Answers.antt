@@ -83,7 +83,7 @@ returns-then-part-count-clause-goes g c =
       batch = taken_of old.queue.items old.taken old.batch c.requires.batch;
       fits = fits_is;
       size = c.requires.size;
-      encoded_record = encoded_is;
+      encoded = encoded_is;
       room = c.requires.room;
       end = end;
     } in
@@ -137,7 +137,7 @@ returns-else-part-count-clause-goes g c =
       batch = taken_of old.queue.items old.taken old.batch c.requires.batch;
       fits = fits_is;
       size = c.requires.size;
-      encoded_record = encoded_is;
+      encoded = encoded_is;
       room = c.requires.room;
       end = end;
     } in
@@ -192,7 +192,7 @@ returns-in-Err-clause-goes g c =
       batch = taken_of old.queue.items old.taken old.batch c.requires.batch;
       fits = fits_is;
       size = c.requires.size;
-      encoded_record = encoded_is;
+      encoded = encoded_is;
       room = c.requires.room;
       end = end;
     } in

@@ -70,7 +70,7 @@ returns-in-Ok-clause-goes g c =
     goes_written g.D.Disk.known g.D.Disk.cells g.D.Disk.sector_count g.D.Disk.moment g.D.Disk.left_since old disk old.sectors Record c.requires.store
     (record_force old.job (subst (λ (st : Stage). JobFits st old.job) c.requires.stage sound.job))
     c.in-Ok.ensures.sectors sound.buffer
-    (record { some = flight.some; batch = flight.batch; fits = flight.fits; size = flight.size; encoded_record = flight.encoded; room = flight.room; end = flight.end })
+    (record { some = flight.some; batch = flight.batch; fits = flight.fits; size = flight.size; encoded = flight.encoded; room = flight.room; end = flight.end })
     (λ tells. ((held tells).0, restaged tells, c.in-Ok.ensures.written tells ∙ cells_is tells))
     (λ tells. ap (base_of s) (c.in-Ok.ensures.written tells ∙ cells_is tells) ∙ c.flights.ensures.full_base s (held tells).0 (held tells).1 (before_fits tells) ∙ sym (base_half tells))
     (λ tells. leaves _ _ _ _ (fully_written s (held tells).0) (ReplaysTo s cells)
