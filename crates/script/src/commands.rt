@@ -35,7 +35,7 @@ pub(crate) enum Control {
 }
 
 /// The call with this command.
-#[tactic(auto, unfolding(crate::specs::Commands::call_of))]
+#[tactic(auto, unfolding(crate::specs::Commands::call_named))]
 pub(crate) fn read_call(word: &[u8]) -> Option<Call>
     ensures { result ≡ call_named word.now }
 {
