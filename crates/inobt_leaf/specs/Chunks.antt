@@ -1,7 +1,7 @@
 -- Records of chunks of 64 inodes, and the leaf as their list.
 use Rattle.std.specs.Prelude.{◌≡◌, ◌+◌, ◌-◌, ◌^◌, ◌%◌, ◌<◌, ◌≤◌, ◌&&◌, ℕ, Bool, nat_le, nat_lt, if◌then◌else◌, List, ◌∷◌, ◌++◌, length, filter, All, count_ones}
 use Rattle.std.specs.List.{AllPairs}
-use Rattle.life_limits.specs.declared.TheConstants.{MAX_CHUNKS}
+use Rattle.life_limits.specs.declared.TheConstants.{MAX_LEAF_RECORDS}
 use Rattle.inobt_leaf.specs.declared.chunk.ChunkRec.{ChunkRec}
 use Rattle.inobt_leaf.specs.Masks.{without_bit, with_bit}
 
@@ -22,7 +22,7 @@ RecordsAscend chunks = AllPairs (λ a b. a.start < b.start) chunks
 
 -- the chunks of a leaf
 pub record IsLeaf (chunks : List ChunkRec) : Type 0 where
-  pub few : length chunks ≤ MAX_CHUNKS
+  pub few : length chunks ≤ MAX_LEAF_RECORDS
   pub each : All IsChunkRecord chunks
   pub ascends : RecordsAscend chunks
 

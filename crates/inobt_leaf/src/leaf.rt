@@ -2,17 +2,17 @@
 
 ghost use Rattle.std.specs.Prelude.{◌≡◌, ◌↔◌, ◌+◌, ◌-◌, ◌%◌, ◌≤◌, ◌<◌, ℕ, true, false, [], length, find, map, None, IsSomeAnd, IsOk, Err, OnOk, OnErr};
 ghost use Rattle.life_bytes.specs.Bits.{is_set};
-ghost use Rattle.life_limits.specs.declared.TheConstants.{MAX_CHUNKS};
+ghost use Rattle.life_limits.specs.declared.TheConstants.{MAX_LEAF_RECORDS};
 ghost use Rattle.inobt_leaf.specs.Chunks.{chunk_holds, IsLeaf, after_take, after_give, where_held, with_whole_chunk};
 
 use crate::chunk::ChunkRec;
 use crate::records::{count_up_to, find_chunk, give_in, take_in};
-use life_limits::{CHUNK_INODES, MAX_CHUNKS};
+use life_limits::{CHUNK_INODES, MAX_LEAF_RECORDS};
 use std::alloc::{AllocFailed, Global};
 use std::marker::Model;
 
 /// How many chunks a leaf holds.
-pub const LEAF_CHUNKS: usize = MAX_CHUNKS as usize;
+pub const LEAF_CHUNKS: usize = MAX_LEAF_RECORDS as usize;
 
 /// Why a chunk was not added. The leaf is as before.
 #[derive(Clone, Copy, Debug, PartialEq, Eq)]
@@ -108,7 +108,7 @@ impl Leaf {
         requires absent { find (chunk_holds start) self.old ≡ None }
         ensures ok { OnOk result (self.new ≡ with_whole_chunk start self.old) }
         ensures leaf { IsLeaf self.new }
-        ensures full { (result ≡ Err LeafFault.LeafFull) ↔ (length self.old ≡ MAX_CHUNKS) }
+        ensures full { (result ≡ Err LeafFault.LeafFull) ↔ (length self.old ≡ MAX_LEAF_RECORDS) }
         ensures err { OnErr result (self.new ≡ self.old) }
     {
         if self.chunks.len() == LEAF_CHUNKS {

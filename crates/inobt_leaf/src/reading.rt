@@ -2,7 +2,7 @@
 
 ghost use Rattle.std.specs.Prelude.{◌≡◌, ◌↔◌, ◌+◌, ◌*◌, ◌≤◌, ◌%◌, ℕ, List, IsTrue, length, map, count_ones, IfOk, MatchResult};
 ghost use Rattle.std.specs.List.{range_with_len};
-ghost use Rattle.life_limits.specs.declared.TheConstants.{MAX_CHUNKS};
+ghost use Rattle.life_limits.specs.declared.TheConstants.{MAX_LEAF_RECORDS};
 ghost use Rattle.life_bytes.specs.SectorBytes.{bytes_of};
 ghost use Rattle.inobt_leaf.specs.Chunks.{IsChunkRecord, IsLeaf};
 ghost use Rattle.inobt_leaf.specs.Pages.{page_encoding, chunk_at};
@@ -43,7 +43,7 @@ fn is_chunk(chunk: &ChunkRec) -> bool
 
 /// Whether these are the chunks of a leaf.
 fn is_leaf(chunks: &[ChunkRec]) -> bool
-    requires { length chunks.now ≤ MAX_CHUNKS }
+    requires { length chunks.now ≤ MAX_LEAF_RECORDS }
     ensures sound { IsTrue result → IsLeaf chunks.now }
     ensures complete { IsLeaf chunks.now → IsTrue result }
 {
@@ -82,7 +82,7 @@ fn read_records(alloc: Global, bytes: &[u8], count: usize) -> Result<Vec<ChunkRe
 
 /// Whether the bytes are the page of these chunks, byte by byte.
 fn is_page_of(chunks: &[ChunkRec], bytes: &[u8], group: u32, at: u64, uuid: &[u8; 16]) -> bool
-    requires { length chunks.now ≤ MAX_CHUNKS }
+    requires { length chunks.now ≤ MAX_LEAF_RECORDS }
     ensures sound { IsTrue result → IsLeaf chunks.now × (bytes.now ≡ page_encoding chunks.now group at uuid.now) }
     ensures complete { IsLeaf chunks.now → bytes.now ≡ page_encoding chunks.now group at uuid.now → IsTrue result }
 {

@@ -1,7 +1,7 @@
 // Writing a leaf's page.
 
 ghost use Rattle.std.specs.Prelude.{◌≡◌, ◌+◌, ◌≤◌, [], length};
-ghost use Rattle.life_limits.specs.declared.TheConstants.{BLOCK_BYTES, MAX_CHUNKS};
+ghost use Rattle.life_limits.specs.declared.TheConstants.{BLOCK_BYTES, MAX_LEAF_RECORDS};
 ghost use Rattle.life_bytes.specs.Pieces.{placed};
 ghost use Rattle.life_bytes.specs.SectorBytes.{bytes_of};
 ghost use Rattle.inobt_leaf.specs.Pages.{page_header, blank_page, chunk_rows, chunk_records, page_encoding};
@@ -54,7 +54,7 @@ fn put_record(bytes: &mut [u8], place: usize, chunk: &ChunkRec)
 
 fn put_records(bytes: &mut [u8], chunks: &[ChunkRec])
     requires long { length bytes.old ≡ BLOCK_BYTES }
-    requires few { length chunks.now ≤ MAX_CHUNKS }
+    requires few { length chunks.now ≤ MAX_LEAF_RECORDS }
     ensures { bytes.new ≡ placed (chunk_records 56 chunks.now) bytes.old }
 {
     for (index, chunk) in chunks.iter().enumerate() {
@@ -64,7 +64,7 @@ fn put_records(bytes: &mut [u8], chunks: &[ChunkRec])
 
 /// The bytes of the page of a leaf.
 pub fn encode(chunks: &[ChunkRec], group: u32, at: u64, uuid: &[u8; 16]) -> [u8; PAGE_BYTES]
-    requires { length chunks.now ≤ MAX_CHUNKS }
+    requires { length chunks.now ≤ MAX_LEAF_RECORDS }
     ensures { result ≡ page_encoding chunks.now group at uuid.now }
 {
     let mut bytes = blank_page();

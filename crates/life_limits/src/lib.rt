@@ -35,6 +35,8 @@ pub const MAX_LEVEL: u32 = 1;
 pub const CHUNK_INODES: u32 = 64;
 /// Chunks of a group.
 pub const MAX_CHUNKS: u32 = 252;
+/// Records of a leaf of an inode btree, one a chunk: as many as a page of 4,096 bytes holds behind its header.
+pub const MAX_LEAF_RECORDS: u32 = 252;
 /// Runs of blocks of an inode.
 pub const MAX_EXTENTS: u32 = 21;
 /// Names of an inode: 2^31 - 1.
