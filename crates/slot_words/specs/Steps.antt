@@ -1,95 +1,74 @@
 -- The steps of a word: when each may be made, and what the word is after it.
-use Rattle.std.specs.Prelude.{◌≡◌, ◌<◌, ◌≤◌, ◌+◌, ◌-◌, ℕ, Bool, true, false, Option, None, Some}
+use Rattle.std.specs.Prelude.{◌≡◌, ◌<◌, ◌+◌, ◌-◌, ◌^◌, ◌==◌, ◌&&◌, ◌↔◌, ℕ, Bool, true, false, not, nat_lt, IsTrue, if◌then◌else◌, Option, None, Some, IfSome}
 use Rattle.life_limits.specs.declared.TheConstants.{MAX_PINS}
 use Rattle.slot_words.specs.declared.word.Word.{Word}
 use Rattle.slot_words.specs.declared.sight.Sight.{Sight}
 use Rattle.slot_words.specs.declared.sight.Sight.TheVariants.{Open, Crowded, Awaits, Other}
-use Rattle.slot_words.specs.Words.{Says}
+use Rattle.slot_words.specs.Words.{IsWord}
 
 -- the inode of this generation is in the cache
-pub record IsOf (word : Word) (generation : ℕ) : Type 0 where
-  pub live : word.live ≡ true
-  pub same : word.generation ≡ generation
+abbrev pub is_cached : ℕ → Word → Bool
+is_cached generation word = word.live && (word.generation == generation)
 
 -- it has no links, and nobody holds it
-pub record IsAwaiting (word : Word) (generation : ℕ) : Type 0 where
-  pub of : IsOf word generation
-  pub unlinked : word.unlinked ≡ true
-  pub pins : word.pins ≡ 0
+abbrev pub is_awaiting : ℕ → Word → Bool
+is_awaiting generation word = is_cached generation word && word.unlinked && (word.pins == 0)
 
 -- it has as many pins as a word can have
-pub record IsCrowded (word : Word) (generation : ℕ) : Type 0 where
-  pub of : IsOf word generation
-  pub pins : word.pins ≡ MAX_PINS
+abbrev pub is_crowded : ℕ → Word → Bool
+is_crowded generation word = is_cached generation word && (word.pins == MAX_PINS)
 
 -- one more may hold it
-pub record CanOpen (word : Word) (generation : ℕ) : Type 0 where
-  pub of : IsOf word generation
-  pub room : word.pins < MAX_PINS
-  pub wanted : ¬ IsAwaiting word generation
+abbrev pub can_open : ℕ → Word → Bool
+can_open generation word = is_cached generation word && nat_lt word.pins MAX_PINS && not (is_awaiting generation word)
 
 -- some inode is in the cache, and somebody holds it
-pub record IsHeld (word : Word) : Type 0 where
-  pub live : word.live ≡ true
-  pub pins : 1 ≤ word.pins
-
--- no inode is in the cache
-abbrev pub IsAway : Word → Type 0
-IsAway word = word.live ≡ false
+abbrev pub is_pinned : Word → Bool
+is_pinned word = word.live && nat_lt 0 word.pins
 
 -- some inode with links is in the cache, and nobody holds it
-pub record IsIdle (word : Word) : Type 0 where
-  pub live : word.live ≡ true
-  pub linked : word.unlinked ≡ false
-  pub pins : word.pins ≡ 0
+abbrev pub is_idle : Word → Bool
+is_idle word = word.live && not word.unlinked && (word.pins == 0)
 
-abbrev pub opened : Word → Word
-opened word = record word { pins = word.pins + 1 }
+-- The word after each step, where the step may be made.
+abbrev pub after_open : ℕ → Word → Option Word
+after_open generation word = if can_open generation word then Some (record word { pins = word.pins + 1 }) else None
 
-abbrev pub closed : Word → Word
-closed word = record word { pins = word.pins - 1 }
+abbrev pub after_close : Word → Option Word
+after_close word = if is_pinned word then Some (record word { pins = word.pins - 1 }) else None
 
-abbrev pub marked : Word → Word
-marked word = record word { unlinked = true }
+abbrev pub after_mark : Bool → Word → Option Word
+after_mark unlinked word = if is_pinned word then Some (record word { unlinked = unlinked }) else None
 
-abbrev pub unmarked : Word → Word
-unmarked word = record word { unlinked = false }
+abbrev pub after_install : ℕ → Bool → Word → Option Word
+after_install generation unlinked word =
+    if word.live then None else Some (record word { generation = generation; live = true; unlinked = unlinked; pins = 1 })
 
-abbrev pub installed : ℕ → Bool → Word → Word
-installed generation unlinked word = record word { generation = generation; live = true; unlinked = unlinked; pins = 1 }
+abbrev pub after_retire : Word → Option Word
+after_retire word = if is_idle word then Some (record word { live = false }) else None
 
-abbrev pub retired : Word → Word
-retired word = record word { live = false }
+abbrev pub after_kill : ℕ → Word → Option Word
+after_kill generation word = if is_awaiting generation word then Some (record word { live = false; unlinked = false }) else None
 
-abbrev pub killed : Word → Word
-killed word = record word { live = false; unlinked = false }
+-- what an open sees of a word
+abbrev pub sight_of : ℕ → Word → Sight
+sight_of generation word =
+    if can_open generation word then Open
+    else if is_crowded generation word then Crowded
+    else if is_awaiting generation word then Awaits
+    else Other
 
--- There is a next word exactly where the step may be made, and it is this one.
-abbrev pub Moves : Option Word → Type 0 → Word → Type 0
-Moves None can next = ¬ can
-Moves (Some word) can next = can × (word ≡ next)
+-- Each sight says one thing of a word, and no more than one of the three may be said of a word.
+pub record SightsAreExact : Type 0 where
+  pub open_ : (generation : ℕ) (word : Word) → (sight_of generation word ≡ Open) ↔ IsTrue (can_open generation word)
+  pub crowded : (generation : ℕ) (word : Word) → (sight_of generation word ≡ Crowded) ↔ IsTrue (is_crowded generation word)
+  pub awaits : (generation : ℕ) (word : Word) → (sight_of generation word ≡ Awaits) ↔ IsTrue (is_awaiting generation word)
 
--- the answer is the number of the word, where there is one
-abbrev pub Writes : Option Word → Option ℕ → Type 0
-Writes None None = Unit {0}
-Writes (Some word) (Some number) = Says number word
-Writes None (Some number) = ⊥
-Writes (Some word) None = ⊥
-
--- The same of numbers: the answer to a number is what the step makes of its word.
-abbrev pub Gives : Option ℕ → Type 0 → Word → Type 0
-Gives None can next = ¬ can
-Gives (Some number) can next = can × Says number next
-
-abbrev pub Steps : ℕ → (Word → Type 0) → (Word → Word) → Option ℕ → Type 0
-Steps number can next answer = (word : Word) → Says number word → Gives answer (can word) (next word)
-
--- What an open sees of a word: that it can be made, that too many hold the inode, that the inode awaits its end, or none of these.
-abbrev pub Sees : Word → ℕ → Sight → Type 0
-Sees word generation Open = CanOpen word generation
-Sees word generation Crowded = IsCrowded word generation
-Sees word generation Awaits = IsAwaiting word generation
-Sees word generation Other = (¬ CanOpen word generation) × (¬ IsCrowded word generation) × (¬ IsAwaiting word generation)
-
-abbrev pub Shows : ℕ → ℕ → Sight → Type 0
-Shows number generation sight = (word : Word) → Says number word → Sees word generation sight
+-- What a step leaves is a word.
+pub record StepsLeaveWords (word : Word) : Type 0 where
+  pub opened : (generation : ℕ) → IfSome (after_open generation word) IsWord
+  pub closed : IfSome (after_close word) IsWord
+  pub marked : (unlinked : Bool) → IfSome (after_mark unlinked word) IsWord
+  pub installed : (generation : ℕ) (unlinked : Bool) → generation < 2 ^ 32 → IfSome (after_install generation unlinked word) IsWord
+  pub retired : IfSome (after_retire word) IsWord
+  pub killed : (generation : ℕ) → IfSome (after_kill generation word) IsWord

@@ -17,9 +17,11 @@ mod sight;
 mod steps;
 mod word;
 
-pub use sight::{Sight, shows};
-pub use steps::{close_of, install_of, kill_of, mark_of, open_of, retire_of, unmark_of};
-pub use word::{Word, each_number_is_one_word};
+pub use sight::{Sight, each_sight_says_one_thing, shows};
+pub use steps::{
+    close_of, install_of, kill_of, mark_of, open_of, retire_of, steps_leave_words, unmark_of,
+};
+pub use word::{Word, each_number_is_one_word, read_word};
 
 #[cfg(test)]
 mod tests;

@@ -1,7 +1,8 @@
 //! What an open sees of a word.
 
-ghost use Rattle.slot_words.specs.Words.{IsWord};
-ghost use Rattle.slot_words.specs.Steps.{Sees, Shows};
+ghost use Rattle.std.specs.Prelude.{◌≡◌, ◌<◌, ◌^◌};
+ghost use Rattle.slot_words.specs.Words.{word_of};
+ghost use Rattle.slot_words.specs.Steps.{SightsAreExact, sight_of};
 
 use crate::word::{Word, read_word};
 use life_limits::MAX_PINS;
@@ -20,8 +21,8 @@ pub enum Sight {
 }
 
 pub(crate) fn sight_of(word: Word, generation: u32) -> Sight
-    requires { IsWord word }
-    ensures { Sees word generation result }
+    requires { word.pins < 2 ^ 28 }
+    ensures { result ≡ sight_of generation word }
 {
     if !word.live || word.generation != generation {
         Sight::Other
@@ -36,7 +37,12 @@ pub(crate) fn sight_of(word: Word, generation: u32) -> Sight
 
 /// What a word shows to somebody who wants to open the inode of this generation.
 pub fn shows(word: u64, generation: u32) -> Sight
-    ensures { Shows word generation result }
+    ensures { result ≡ sight_of generation (word_of word) }
 {
     sight_of(read_word(word), generation)
 }
+
+/// A law: each sight says one thing of a word.
+pub fn each_sight_says_one_thing()
+    ensures { SightsAreExact }
+{}

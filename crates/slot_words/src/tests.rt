@@ -35,5 +35,17 @@ fn words_step(rt: HostRuntime) {
     assert_eq!(rt; kill_of(UNLINKED, 1), Some(0x1_0000_0000));
     assert_eq!(rt; kill_of(UNLINKED, 2), None);
     assert_eq!(rt; open_of(IDLE | 3 << 28, 1), Some(0x1_b000_0001));
+    assert_eq!(rt;
+        read_word(0x1_b000_0001),
+        Word {
+            generation: 1,
+            live: true,
+            unlinked: false,
+            unused: 3,
+            pins: 1
+        }
+    );
     each_number_is_one_word();
+    each_sight_says_one_thing();
+    steps_leave_words();
 }

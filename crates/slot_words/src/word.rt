@@ -1,8 +1,7 @@
 //! A word part by part.
 
-ghost use Rattle.std.specs.Prelude.{◌≡◌, ◌<◌, ◌+◌, ◌*◌, ◌^◌, ℕ};
-ghost use Rattle.std.specs.Int.{bit_at};
-ghost use Rattle.slot_words.specs.Words.{IsWord, Says, WordsAreNumbers, digit, number_of};
+ghost use Rattle.std.specs.Prelude.{◌≡◌, ◌<◌, ◌+◌, ◌/◌, ◌%◌, ◌*◌, ◌^◌, ◌==◌, ℕ, IfSome};
+ghost use Rattle.slot_words.specs.Words.{IsWord, WordsAreNumbers, number_of, numbered, word_of};
 
 /// What a word of the cache says of its inode.
 #[derive(Clone, Copy, Debug, PartialEq, Eq)]
@@ -21,14 +20,15 @@ pub struct Word {
 
 fn has_bit(number: u64, bit: u32) -> bool
     requires { bit < 64 }
-    ensures { digit result ≡ bit_at number bit }
+    ensures { result ≡ (number / 2 ^ bit % 2 == 1) }
 {
     (number >> bit) & 1 == 1
 }
 
 /// The parts of a word.
-pub(crate) fn read_word(number: u64) -> Word
-    ensures { Says number result }
+pub fn read_word(number: u64) -> Word
+    ensures word { result ≡ word_of number }
+    ensures fits { IsWord result }
 {
     Word {
         generation: (number >> 32) as u32,
@@ -51,7 +51,18 @@ pub(crate) fn write_word(word: Word) -> u64
         + u64::from(word.pins)
 }
 
-/// A law: each number of 64 bits is one word, and no two numbers are the same word.
+/// The number of a word, where there is one.
+pub(crate) fn written(word: Option<Word>) -> Option<u64>
+    requires { IfSome word IsWord }
+    ensures { result ≡ numbered word }
+{
+    match word {
+        Some(word) => Some(write_word(word)),
+        None => None,
+    }
+}
+
+/// A law: each number of 64 bits is one word, and each word is one number of 64 bits.
 pub fn each_number_is_one_word()
     ensures { WordsAreNumbers }
 {}
