@@ -8,7 +8,7 @@ use Rattle.std.proofs.lemmas.List.{same_lists, get_or_default, take_at, drop_at,
 use Rattle.std.proofs.lemmas.List.FromFn.{length-map-range_with_len, get_or-map-range_with_len}
 use Rattle.std.proofs.lemmas.Nat.{div_below, div-add-mod', mod_below}
 use Rattle.life_bytes.specs.declared.sector.Sector.{Sector}
-use Rattle.life_bytes.specs.Sectors.{zero_sector, AreSectors}
+use Rattle.life_bytes.specs.Sectors.{zero_sector}
 use Rattle.geometry.specs.declared.shape.Geometry.{Geometry}
 use Rattle.geometry.specs.Places.{group_sectors}
 use Rattle.geometry.specs.Shape.{IsGeometry}
@@ -195,43 +195,20 @@ header_again l g image layouts group sound are lt =
 
 -- ---- the page
 
--- the k-th of sectors of 512 bytes that hold bytes
-parts_of : (f : ℕ → List ℕ) (s n k : ℕ) → ((i : ℕ) → i < n → length (f (s + i)) ≡ 512) → k < n → part k (flat_map f (range_with_len s n)) ≡ f (s + k)
-unfolding part
-parts_of f s zero k long lt = absurd (omega arith)
-parts_of f s (suc n) zero long lt =
-    let e : s + 0 ≡ s = omega arith in
-    take_at (f s) (flat_map f (range_with_len (s + 1) n)) 512 (ap (λ (i : ℕ). length (f i)) (sym e) ∙ long 0 (omega arith)) ∙ ap f (sym e)
-parts_of f s (suc n) (suc k) long lt =
-    let e : s + 0 ≡ s = omega arith in
-    let d : 512 * suc k ≡ 512 + 512 * k = omega arith in
-    let next : s + 1 + k ≡ s + suc k = omega arith in
-    let rest : List ℕ = flat_map f (range_with_len (s + 1) n) in
-    ap (λ (m : ℕ). take 512 (drop m (f s ++ rest))) d ∙ ap (take 512) (sym (drop-drop (512 * k) 512 (f s ++ rest)))
-    ∙ ap (λ (bytes : List ℕ). take 512 (drop (512 * k) bytes)) (drop_at (f s) rest 512 (ap (λ (i : ℕ). length (f i)) (sym e) ∙ long 0 (omega arith)))
-    ∙ parts_of f (s + 1) n k (λ i low. let q : s + 1 + i ≡ s + suc i = omega arith in ap (λ (j : ℕ). length (f j)) q ∙ long (suc i) (omega arith)) (omega arith)
-    ∙ ap f next
-
-bytes_part : (image : List Sector) (s n k : ℕ) → ((i : ℕ) → i < n → length (bytes_at image (s + i)) ≡ 512) → k < n → part k (bytes_from image s n) ≡ bytes_at image (s + k)
-unfolding bytes_from
-bytes_part image s n k long lt = parts_of (bytes_at image) s n k long lt
-
 page_sector_read : (g : Geometry) (image : List Sector) (layouts : Layouts) (group : ℕ) → AreRead g image layouts → group < g.groups → page_sector g image group ≡ sector_in g group (page_place layouts group)
 unfolding page_sector page_place
 page_sector_read g image layouts group are lt = ap (λ (root : ℕ). sector_in g group (8 * root)) (sym (are.page group lt))
 
 page_again : (l : Lower) (g : Geometry) (image : List Sector) (layouts : Layouts) (group k : ℕ) → AreGroupsSound g image → AreRead g image layouts → group < g.groups
-    → ((i : ℕ) → i < 8 → length (bytes_at image (page_sector g image group + i)) ≡ 512) → k < 8
+    → k < 8
     → part k (page_bytes g layouts group (group_read g image group)) ≡ bytes_at image (sector_in g group (page_place layouts group + k))
 unfolding page_bytes
-page_again l g image layouts group k sound are lt long low =
+page_again l g image layouts group k sound are lt low =
     let page = (sound tree group lt).0 in
-    let s : ℕ = page_sector g image group in
     let at = page_sector_read g image layouts group are lt in
     ap (λ (rs : List ChunkRec). part k (page_encoding rs group (sector_in g group (page_place layouts group)) g.uuid)) (records_again l g image group page.leaf)
     ∙ ap (λ (n : ℕ). part k (page_encoding (records_of g image group) group n g.uuid)) (sym at)
-    ∙ ap (part k) (sym page.encoded)
-    ∙ bytes_part image s 8 k long low
+    ∙ sym (page.encoded k low)
     ∙ ap (λ (n : ℕ). bytes_at image (n + k)) at
     ∙ ap (bytes_at image) (sector_more g group (page_place layouts group) k)
 
@@ -341,18 +318,10 @@ inode_keeps : (o : Option Inode) (f : Inode → List ℕ) (old : List ℕ) → (
 inode_keeps None f old same = refl
 inode_keeps (Some x) f old same = same x refl
 
-long_at : (image : List Sector) (s : ℕ) → AreSectors image → s < length image → length (bytes_at image s) ≡ 512
-unfolding bytes_at
-long_at image s long lt = long s zero_sector lt
-
-inside : (g : Geometry) (image : List Sector) (group place : ℕ) → g.groups * group_sectors g ≤ length image → group < g.groups → place < group_sectors g → sector_in g group place < length image
-unfolding sector_in
-inside g image group place size lt low = let within = in_image g.groups (group_sectors g) group place lt low in omega arith
-
 place_again : (l : Lower) (g : Geometry) (image : List Sector) (layouts : Layouts) (group place : ℕ) → IsGeometry g → AreGroupsSound g image → AreRead g image layouts
-    → g.groups * group_sectors g ≤ length image → AreSectors image → group < g.groups → place < group_sectors g
+    → g.groups * group_sectors g ≤ length image → group < g.groups → place < group_sectors g
     → Keeps (bytes_at image (sector_in g group place)) (metadata g layouts group (group_read g image group) place)
-place_again l g image layouts group place is sound are size long lt low =
+place_again l g image layouts group place is sound are size lt low =
     let chunks = group_read g image group in
     let old : List ℕ = bytes_at image (sector_in g group place) in
     let r = ready g (rows_of g image) layouts image group (can_encode l g image layouts is sound are size) lt in
@@ -376,18 +345,14 @@ place_again l g image layouts group place is sound are size long lt low =
     let from = leb-true p place both.0 in
     let to = ltb-true place (p + 8) both.1 in
     let back : p + (place - p) ≡ place = omega arith in
-    page_again l g image layouts group (place - p) sound are lt
-    (λ i small.
-    let at : page_sector g image group + i ≡ sector_in g group (p + i) = ap (λ (n : ℕ). n + i) (page_sector_read g image layouts group are lt) ∙ sector_more g group p i in
-    ap (λ (n : ℕ). length (bytes_at image n)) at ∙ long_at image (sector_in g group (p + i)) long (inside g image group (p + i) size lt (omega arith)))
-    (omega arith)
+    page_again l g image layouts group (place - p) sound are lt (omega arith)
     ∙ ap (λ (n : ℕ). bytes_at image (sector_in g group n)) back)
     (inode_keeps (inode_in chunks place) (inode_sector g layouts group place) old (λ x e. inode_again l g image layouts group place x is sound are lt e)))
 
 sector_again : (l : Lower) (g : Geometry) (image : List Sector) (layouts : Layouts) (s : ℕ) → IsGeometry g → AreGroupsSound g image → AreRead g image layouts → g.groups * group_sectors g ≤ length image
-    → AreSectors image → s < length image → bytes_at (encoded g (rows_of g image) layouts image) s ≡ bytes_at image s
+    → s < length image → bytes_at (encoded g (rows_of g image) layouts image) s ≡ bytes_at image s
 unfolding sector_in
-sector_again l g image layouts s is sound are size long lt =
+sector_again l g image layouts s is sound are size lt =
     let t = rows_of g image in
     let few = is.blocks.0 in
     let some : 0 < group_sectors g = omega arith in
@@ -402,7 +367,7 @@ sector_again l g image layouts s is sound are size long lt =
           ap (bytes_at (encoded g t layouts image)) (sym at)
           ∙ at_place g t layouts image group place size below inner
           ∙ ap (λ (chunks : Group). unwrap_or (metadata g layouts group chunks place) (bytes_at image (sector_in g group place))) (group_of_rows g image group below)
-          ∙ place_again l g image layouts group place is sound are size long below inner
+          ∙ place_again l g image layouts group place is sound are size below inner
           ∙ ap (bytes_at image) at
     ]
 
@@ -411,19 +376,19 @@ unfolding bytes_at
 same_bytes a b s e = ap sector_of e
 
 pub image_again : (l : Lower) (g : Geometry) (image : List Sector) (layouts : Layouts) → IsGeometry g → AreGroupsSound g image → AreRead g image layouts → g.groups * group_sectors g ≤ length image
-    → AreSectors image → encoded g (rows_of g image) layouts image ≡ image
-image_again l g image layouts is sound are size long =
+    → encoded g (rows_of g image) layouts image ≡ image
+image_again l g image layouts is sound are size =
     let new = encoded g (rows_of g image) layouts image in
     let many = length-encoded g (rows_of g image) layouts image in
     same_lists new image many
     (λ s d lt.
     let within : s < length image = omega (arith, lt, many) in
     get_or_default new s d zero_sector lt
-    ∙ same_bytes new image s (sector_again l g image layouts s is sound are size long within)
+    ∙ same_bytes new image s (sector_again l g image layouts s is sound are size within)
     ∙ get_or_default image s zero_sector d within)
 
-pub encoded_again : (l : Lower) (g : Geometry) (image : List Sector) → IsGeometry g → AreGroupsSound g image → g.groups * group_sectors g ≤ length image → AreSectors image
+pub encoded_again : (l : Lower) (g : Geometry) (image : List Sector) → IsGeometry g → AreGroupsSound g image → g.groups * group_sectors g ≤ length image
     → (layouts : Layouts) × CanEncode g (rows_of g image) layouts image × (encoded g (rows_of g image) layouts image ≡ image)
-encoded_again l g image is sound size long =
+encoded_again l g image is sound size =
     let read = layouts_read g image sound in
-    (read.0, can_encode l g image read.0 is sound read.1 size, image_again l g image read.0 is sound read.1 size long)
+    (read.0, can_encode l g image read.0 is sound read.1 size, image_again l g image read.0 is sound read.1 size)

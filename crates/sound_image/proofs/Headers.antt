@@ -116,16 +116,21 @@ pub sector_more : (g : Geometry) (group place k : ℕ) → sector_in g group pla
 unfolding sector_in
 sector_more g group place k = omega arith
 
+page_part : (g : Geometry) (t : Table) (layouts : Layouts) (image : List Sector) (group k : ℕ) → IsReady g t layouts image group → k < 8
+    → bytes_at (encoded g t layouts image) (sector_in g group (page_place layouts group) + k) ≡ part k (page_bytes g layouts group (group_at t group))
+page_part g t layouts image group k r lt =
+    let least = r.least in
+    let high = r.page_high in
+    ap (bytes_at (encoded g t layouts image)) (sector_more g group (page_place layouts group) k)
+    ∙ at_metadata g t layouts image group (page_place layouts group + k) (part k (page_bytes g layouts group (group_at t group))) r.size r.below (omega arith) (at_page g layouts group (group_at t group) k r.page_low lt)
+
 pub page_is : (l : Lower) (g : Geometry) (t : Table) (layouts : Layouts) (image : List Sector) (group : ℕ) → IsReady g t layouts image group
     → bytes_from (encoded g t layouts image) (sector_in g group (page_place layouts group)) 8 ≡ page_encoding (map chunk_record (group_at t group)) group (sector_in g group (page_place layouts group)) g.uuid
 unfolding page_bytes
 page_is l g t layouts image group r =
-    let least = r.least in
-    let high = r.page_high in
     bytes_from_parts (encoded g t layouts image) (page_bytes g layouts group (group_at t group)) (sector_in g group (page_place layouts group)) 8
     (l.pages.long (map chunk_record (group_at t group)) group (sector_in g group (page_place layouts group)) g.uuid r.leaf r.uuid)
-    (λ k lt. ap (bytes_at (encoded g t layouts image)) (sector_more g group (page_place layouts group) k)
-    ∙ at_metadata g t layouts image group (page_place layouts group + k) (part k (page_bytes g layouts group (group_at t group))) r.size r.below (omega arith) (at_page g layouts group (group_at t group) k r.page_low lt))
+    (λ k lt. page_part g t layouts image group k r lt)
 
 pub records_are : (l : Lower) (g : Geometry) (t : Table) (layouts : Layouts) (image : List Sector) (group : ℕ) → IsReady g t layouts image group
     → records_of g (encoded g t layouts image) group ≡ map chunk_record (group_at t group)
@@ -137,15 +142,16 @@ records_are l g t layouts image group r =
 
 pub page_right : (l : Lower) (g : Geometry) (t : Table) (layouts : Layouts) (image : List Sector) (group : ℕ) → IsReady g t layouts image group
     → IsPageRight g (encoded g t layouts image) group
+unfolding page_bytes
 page_right l g t layouts image group r =
     let new = encoded g t layouts image in
     let records = sym (records_are l g t layouts image group r) in
     let at = page_sector_is l g t layouts image group r in
     record {
       leaf = subst IsLeaf records r.leaf;
-      encoded = ap (λ (s : ℕ). bytes_from new s 8) at ∙ page_is l g t layouts image group r
-          ∙ ap (λ (cs : List ChunkRec). page_encoding cs group (sector_in g group (page_place layouts group)) g.uuid) records
-          ∙ ap (λ (s : ℕ). page_encoding (records_of g new group) group s g.uuid) (sym at);
+      encoded = λ k lt. ap (λ (s : ℕ). bytes_at new (s + k)) at ∙ page_part g t layouts image group k r lt
+          ∙ ap (λ (cs : List ChunkRec). part k (page_encoding cs group (sector_in g group (page_place layouts group)) g.uuid)) records
+          ∙ ap (λ (s : ℕ). part k (page_encoding (records_of g new group) group s g.uuid)) (sym at);
       in_data = subst (λ (cs : List ChunkRec). (k : ℕ) (d : ChunkRec) → k < length cs → IsInData g.blocks (get_or cs k d)) records
           (all_in_data_blocks g.blocks (group_at t group) r.is_group.chunks r.data_of);
     }

@@ -17,7 +17,7 @@ use Rattle.life_table.specs.declared.types.Row.{Row}
 use Rattle.life_table.specs.declared.table.Inode.{Inode}
 use Rattle.life_table.specs.Table.{Group}
 use Rattle.life_table.specs.Space.{times, chunk_blocks, chunk_length, row_blocks, is_free_block}
-use Rattle.sound_image.specs.Places.{bytes_at, bytes_from, part, sector_in, number_in, header_place, bitmap_place}
+use Rattle.sound_image.specs.Places.{bytes_at, part, sector_in, number_in, header_place, bitmap_place}
 use Rattle.sound_image.specs.Reading.{header_of, page_sector, records_of, inode_bytes, core_of, blocks_in, group_read, row_at}
 
 -- The header of a group has its form and checksum, and its group, length and uuid. Its root is a block of pages and its level
@@ -32,11 +32,13 @@ pub record IsHeaderRight (g : Geometry) (image : List Sector) (group : ℕ) : Ty
 abbrev pub IsInData : ℕ → ChunkRec → Type 0
 IsInData blocks chunk = (FIRST_DATA_BLOCK ≤ chunk.start / BLOCK_SECTORS) × (chunk.start / BLOCK_SECTORS + chunk_length ≤ blocks)
 
--- The leaf has its form, checksum, place, group and uuid, and its records are those of a leaf: they ascend, they start at multiples
--- of 64, and each free count is the number of bits of its mask. The blocks of each chunk are data blocks.
+-- Each sector of the leaf's page is that of the page that encodes its records, with its form, checksum, place, group and uuid, and
+-- the records are those of a leaf: they ascend, they start at multiples of 64, and each free count is the number of bits of its mask.
+-- The blocks of each chunk are data blocks.
 pub record IsPageRight (g : Geometry) (image : List Sector) (group : ℕ) : Type 0 where
   pub leaf : IsLeaf (records_of g image group)
-  pub encoded : bytes_from image (page_sector g image group) BLOCK_SECTORS ≡ page_encoding (records_of g image group) group (page_sector g image group) g.uuid
+  pub encoded : (k : ℕ) → k < BLOCK_SECTORS
+      → bytes_at image (page_sector g image group + k) ≡ part k (page_encoding (records_of g image group) group (page_sector g image group) g.uuid)
   pub in_data : All (IsInData g.blocks) (records_of g image group)
 
 -- the header counts the inodes of the chunks, and the free ones among them

@@ -4,7 +4,6 @@ ghost use Rattle.std.specs.Prelude.{◌≡◌, ◌≤◌, ◌<◌, ◌*◌, ◌/
 ghost use Rattle.life_limits.specs.declared.TheConstants.{BLOCK_SECTORS, BUCKETS, CHUNK_INODES};
 ghost use Rattle.life_bytes.specs.declared.sector.Sector.{Sector};
 ghost use Rattle.life_bytes.specs.SectorBytes.{bytes_of};
-ghost use Rattle.life_bytes.specs.Sectors.{AreSectors};
 ghost use Rattle.geometry.specs.declared.shape.Geometry.{Geometry};
 ghost use Rattle.geometry.specs.Places.{group_sectors};
 ghost use Rattle.geometry.specs.Shape.{IsGeometry};
@@ -118,7 +117,7 @@ pub fn sound_tables_are_well_formed()
 
 /// A law: a sound image is the encoding of its table, with layouts of it. So the rules leave no sector of the format open, and hold of no other image.
 pub fn sound_images_are_encoded()
-    ensures { (g : Geometry) (image : List Sector) → IsGeometry g → AreGroupsSound g image → g.groups * group_sectors g ≤ length image → AreSectors image
+    ensures { (g : Geometry) (image : List Sector) → IsGeometry g → AreGroupsSound g image → g.groups * group_sectors g ≤ length image
         → (layouts : Layouts) × CanEncode g (rows_of g image) layouts image × (encoded g (rows_of g image) layouts image ≡ image) }
 {
     encoded_cores_are_read();
