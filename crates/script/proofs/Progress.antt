@@ -12,7 +12,7 @@ use Rattle.script.specs.declared.fault.ScriptFault.TheVariants as script
 use Rattle.script.specs.declared.types.Line.{Line}
 use Rattle.script.specs.Rules.{IsInside, IsLeastBroken, rule_number}
 use Rattle.script.specs.Reading.{IsLineFault, fault_at}
-use Rattle.script.specs.Scripts.{Numbered, IsReadAs, IsFirstFault, is_skipped, lines_of, numbered}
+use Rattle.script.specs.Scripts.{Numbered, IsReadAs, IsFirstFault, is_skipped, lines_of, numbered_lines}
 
 -- no script has more lines than bytes, but for one
 pub few_lines : (bytes : List ℕ) → length (lines_of bytes) ≤ length bytes + 1
@@ -33,35 +33,35 @@ inside_of (d ∷ done) (l ∷ lines) h = (h.0.inside, inside_of done lines h.1)
 
 -- when no line is left, all were read
 pub inside_all : (asking : List Numbered) (lines : List Line) (number : ℕ) (all : List (List ℕ))
-    → (done : List Numbered) × (asking ≡ done ++ numbered number all) × AllZip IsReadAs done lines → all ≡ [] → AllByRecursion (λ earlier. IsInside earlier.text) asking
+    → (done : List Numbered) × (asking ≡ done ++ numbered_lines number all) × AllZip IsReadAs done lines → all ≡ [] → AllByRecursion (λ earlier. IsInside earlier.text) asking
 inside_all asking lines number all (done, is, read) none =
-    let same : asking ≡ done = is ∙ ap (λ (l : List (List ℕ)). done ++ numbered number l) none ∙ append-nil done in
+    let same : asking ≡ done = is ∙ ap (λ (l : List (List ℕ)). done ++ numbered_lines number l) none ∙ append-nil done in
     subst (λ (l : List Numbered). AllByRecursion (λ earlier. IsInside earlier.text) l) (sym same) (inside_of done lines read)
 
 -- a line that asks for something is the next of those that do
 asks : (number : ℕ) (text : List ℕ) (rest all : List (List ℕ)) → all ≡ text ∷ rest → is_skipped text ≡ false
-    → numbered number all ≡ record { number = number; text = text } ∷ numbered (number + 1) rest
-asks number text rest all is kept = ap (numbered number) is ∙ ap (λ b. cond b (numbered (number + 1) rest) (record { number = number; text = text } ∷ numbered (number + 1) rest)) kept
+    → numbered_lines number all ≡ record { number = number; text = text } ∷ numbered_lines (number + 1) rest
+asks number text rest all is kept = ap (numbered_lines number) is ∙ ap (λ b. cond b (numbered_lines (number + 1) rest) (record { number = number; text = text } ∷ numbered_lines (number + 1) rest)) kept
 
 -- one more line was read
 pub read_more : (asking : List Numbered) (lines : List Line) (number : ℕ) (text : List ℕ) (rest all : List (List ℕ)) (line : Line)
-    → (done : List Numbered) × (asking ≡ done ++ numbered number all) × AllZip IsReadAs done lines
+    → (done : List Numbered) × (asking ≡ done ++ numbered_lines number all) × AllZip IsReadAs done lines
     → all ≡ text ∷ rest → is_skipped text ≡ false → IsReadAs (record { number = number; text = text }) line
-    → (done : List Numbered) × (asking ≡ done ++ numbered (number + 1) rest) × AllZip IsReadAs done (lines ++ line ∷ [])
+    → (done : List Numbered) × (asking ≡ done ++ numbered_lines (number + 1) rest) × AllZip IsReadAs done (lines ++ line ∷ [])
 read_more asking lines number text rest all line (done, is, read) here kept one = (
   done ++ record { number = number; text = text } ∷ [],
-  is ∙ ap (λ (l : List Numbered). done ++ l) (asks number text rest all here kept) ∙ sym (append_assoc done (record { number = number; text = text } ∷ []) (numbered (number + 1) rest)),
+  is ∙ ap (λ (l : List Numbered). done ++ l) (asks number text rest all here kept) ∙ sym (append_assoc done (record { number = number; text = text } ∷ []) (numbered_lines (number + 1) rest)),
   push done lines (record { number = number; text = text }) line read one,
 )
 
 -- the line that was refused is the first
 pub first_fault : (asking : List Numbered) (lines : List Line) (number : ℕ) (text : List ℕ) (rest all : List (List ℕ)) (refused : LineFault) (line named : ℕ)
-    → (done : List Numbered) × (asking ≡ done ++ numbered number all) × AllZip IsReadAs done lines
+    → (done : List Numbered) × (asking ≡ done ++ numbered_lines number all) × AllZip IsReadAs done lines
     → all ≡ text ∷ rest → is_skipped text ≡ false → IsLineFault text refused → fault_at number refused ≡ script.Outside line named → IsFirstFault asking line named
 first_fault asking lines number text rest all (fault.Breaks r) line named (done, is, read) here kept least told = record {
   before = done;
   at = record { number = number; text = text };
-  behind = numbered (number + 1) rest;
+  behind = numbered_lines (number + 1) rest;
   lines = is ∙ ap (λ (l : List Numbered). done ++ l) (asks number text rest all here kept);
   inside = inside_of done lines read;
   number = cc;

@@ -22,14 +22,14 @@ pub record Numbered : Type 0 where
   pub text : List ℕ
 
 -- of lines of which the first has this number, those that are not skipped
-abbrev pub numbered : ℕ → List (List ℕ) → List Numbered
-numbered number [] = []
-numbered number (line ∷ lines) =
-    if is_skipped line then numbered (number + 1) lines else record { number = number; text = line } ∷ numbered (number + 1) lines
+abbrev pub numbered_lines : ℕ → List (List ℕ) → List Numbered
+numbered_lines number [] = []
+numbered_lines number (line ∷ lines) =
+    if is_skipped line then numbered_lines (number + 1) lines else record { number = number; text = line } ∷ numbered_lines (number + 1) lines
 
 -- the lines of a script that ask for something, which are numbered from 1
 abbrev pub asking_lines : List ℕ → List Numbered
-asking_lines bytes = numbered 1 (lines_of bytes)
+asking_lines bytes = numbered_lines 1 (lines_of bytes)
 
 -- the line is in the grammar, and was read as what it denotes
 pub record IsReadAs (asking : Numbered) (line : Line) : Type 0 where
