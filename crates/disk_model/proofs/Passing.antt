@@ -2,7 +2,7 @@
 use Rattle.std.proofs.Common.{ℕ, zero, suc, List, [], ◌∷◌, take, refl, sym, subst, inl, inr}
 use Rattle.life_bytes.specs.declared.sector.Sector.{Sector}
 use Rattle.disk_model.specs.Disk.{Cell, IsImage, written, IsPartlyWritten, Elapses}
-use Rattle.disk_model.specs.DiskLaws.{IsImage-still}
+use Rattle.disk_model.specs.DiskLaws.{IsImage-still, Elapses-weaker}
 use Rattle.disk_model.specs.StopDisk.{Passes}
 use Rattle.disk_model.proofs.Replay.{IsPartlyWritten-none}
 
@@ -46,18 +46,8 @@ IsImage-take (suc n) (suc at) (piece ∷ pieces) (cell ∷ cells) [] is = is
 IsImage-take (suc n) zero (piece ∷ pieces) (cell ∷ cells) (sector ∷ image) is = (is.0, IsImage-take n zero pieces cells image is.1)
 IsImage-take (suc n) (suc at) (piece ∷ pieces) (cell ∷ cells) (sector ∷ image) is = (is.0, IsImage-take (suc n) at (piece ∷ pieces) cells image is.1)
 
--- more may be left in a call than is said
-pub Elapses-wider : (before now : ℕ) (past since : ℕ → List Sector → Type 0) (P Q : List Sector → Type 0) → ((image : List Sector) → P image → Q image) → Elapses before now past since P → Elapses before now past since Q
-Elapses-wider before now past since P Q wider elapses = record {
-  later = elapses.later;
-  nothing_else = λ moment image le was. elim (elapses.nothing_else moment image le was) [
-    | inl left ↦ inl left
-    | inr within ↦ inr (wider image within)
-  ];
-  keeps = elapses.keeps;
-}
-
+-- and so may be left in the call
 pub Elapses-take : (n at : ℕ) (pieces : List Sector) (cells : List Cell) (before now : ℕ) (past since : ℕ → List Sector → Type 0)
     → Elapses before now past since (IsImage (written at (take n pieces) cells)) → Elapses before now past since (IsImage (written at pieces cells))
 Elapses-take n at pieces cells before now past since elapses =
-    Elapses-wider before now past since (IsImage (written at (take n pieces) cells)) (IsImage (written at pieces cells)) (λ image is. IsImage-take n at pieces cells image is) elapses
+    Elapses-weaker before now past since (IsImage (written at (take n pieces) cells)) (IsImage (written at pieces cells)) (λ image is. IsImage-take n at pieces cells image is) elapses

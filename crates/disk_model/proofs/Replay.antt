@@ -36,10 +36,6 @@ Elapses-change disk change P in_call = record {
       (left.0, left.1, omega (arith, left.2, length-append disk.changes (change ∷ [])), subst (λ cells. IsImage cells image) (sym (left_before disk change left.0 left.2)) left.3);
 }
 
--- where nothing was changed, a stop may leave what it might
-pub Elapses-none : (disk : DiskRecord) (P : List Sector → Type 0) → Elapses (length disk.changes) (length disk.changes) (left_from disk) (left_from disk) P
-Elapses-none disk P = record { later = omega arith; nothing_else = λ moment image le left. inl left; keeps = λ moment image le left. left }
-
 -- a write that wrote nothing
 pub IsPartlyWritten-none : (at : ℕ) (pieces : List Sector) (cells : List Cell) → IsPartlyWritten at pieces cells cells
 IsPartlyWritten-none at [] cells = refl

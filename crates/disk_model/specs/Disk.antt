@@ -1,5 +1,5 @@
 -- A disk as its callers see it: what a read of each sector gives, and what a stop may leave.
-use Rattle.std.specs.Prelude.{◌≡◌, ◌≤◌, ◌⊎◌, ◌+◌, ⊤, ℕ, zero, suc, Bool, true, false, List, [], ◌∷◌, Option, None, Some, Contains, map}
+use Rattle.std.specs.Prelude.{◌≡◌, ◌≤◌, ◌⊎◌, ◌+◌, ⊤, ℕ, zero, suc, Bool, true, false, List, [], ◌∷◌, Option, None, Some, Result, Ok, Err, Contains, map}
 use Rattle.life_bytes.specs.declared.sector.Sector.{Sector}
 
 -- one sector: what a read gives, and the other values that a stop may leave
@@ -70,6 +70,18 @@ pub record Elapses (before now : ℕ) (past since : ℕ → List Sector → Type
   pub later : before ≤ now
   pub nothing_else : (moment : ℕ) (image : List Sector) → moment ≤ before → since moment image → past moment image ⊎ in_call image
   pub keeps : (moment : ℕ) (image : List Sector) → moment ≤ before → past moment image → since moment image
+
+-- the calls of a disk that can fail
+pub data CallKind : Type 0 where
+  ReadCall : CallKind
+  WriteCall : CallKind
+  FlushCall : CallKind
+
+-- What a call of this kind is, where a fact says of each kind that calls of that kind alone failed: a call that succeeded
+-- is of each, and one that failed of its own.
+abbrev pub FailsAs : {T E : Type 0} → CallKind → Result T E → (CallKind → Type 0) → Type 0
+FailsAs kind (Ok value) only_failed = (other : CallKind) → only_failed other
+FailsAs kind (Err error) only_failed = only_failed kind
 
 -- Whether a disk is to stop, for tests of stops: within the write that is so many writes away, after its first sectors.
 pub record Stopping : Type 0 where

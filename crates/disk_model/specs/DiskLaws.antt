@@ -1,9 +1,10 @@
--- What follows from the words of a disk: what a write that was cut short leaves, and what reads and stops give after each call.
+-- What follows from the words of a disk: what a write that was cut short leaves, what reads and stops give after each call,
+-- and how the moments of calls join.
 use Rattle.std.specs.Prelude.{◌≡◌, ◌≤◌, ◌⊎◌, ◌+◌, ◌++◌, ℕ, zero, suc, Bool, true, false, Option, None, Some, List, [], ◌∷◌, length, take, drop, Contains, refl}
 use Rattle.std.proofs.Common.{sym, ◌∙◌, ap, subst, inl, inr, zero-add, arith}
 use Rattle.std.proofs.lemmas.Grind.{common_steps}
 use Rattle.life_bytes.specs.declared.sector.Sector.{Sector}
-use Rattle.disk_model.specs.Disk.{Arming, Stopping, brought_nearer, after_write_by, after_write, after_writes, IsAfterWrites, Cell, MayLeave, IsImage, as_read, settled, settled_as, flushed, HasOneImage, overwritten, maybe_left, written, IsAttempted, IsPartlyWritten}
+use Rattle.disk_model.specs.Disk.{Arming, Stopping, brought_nearer, after_write_by, after_write, after_writes, IsAfterWrites, Cell, MayLeave, IsImage, as_read, settled, settled_as, flushed, HasOneImage, overwritten, maybe_left, written, IsAttempted, IsPartlyWritten, Elapses}
 
 -- Where a write may have been cut short: each sector of its range is the old one or its piece, and the others are the old ones.
 abbrev pub IsTorn : ℕ → List Sector → List Sector → List Sector → Type 0
@@ -321,3 +322,36 @@ after_writes-stopped zero arming is = refl
 after_writes-stopped (suc writes) arming is =
     let same = stopped-after_write_by arming.stopped arming.armed arming is in
     ap (λ a. after_writes writes a) same ∙ after_writes-stopped writes arming is
+
+-- ---- moments
+
+-- between two calls nothing else may have been left
+pub Elapses-none : (moment : ℕ) (left : ℕ → List Sector → Type 0) (in_call : List Sector → Type 0) → Elapses moment moment left left in_call
+Elapses-none moment left in_call = record { later = omega arith; nothing_else = λ since image le was. inl was; keeps = λ since image le was. was }
+
+-- more may be left in a call than is said
+pub Elapses-weaker : (before now : ℕ) (past since : ℕ → List Sector → Type 0) (P Q : List Sector → Type 0) → ((image : List Sector) → P image → Q image)
+    → Elapses before now past since P → Elapses before now past since Q
+Elapses-weaker before now past since P Q weaker elapses = record {
+  later = elapses.later;
+  nothing_else = λ moment image le was. elim (elapses.nothing_else moment image le was) [ inl left ↦ inl left | inr within ↦ inr (weaker image within) ];
+  keeps = elapses.keeps;
+}
+
+-- two calls, one after the other
+pub Elapses-both : (first second third : ℕ) (one two three : ℕ → List Sector → Type 0) (in_call : List Sector → Type 0)
+    → Elapses first second one two in_call → Elapses second third two three in_call → Elapses first third one three in_call
+Elapses-both first second third one two three in_call a b = record {
+  later = omega (arith, a.later, b.later);
+  nothing_else = λ since image le was. elim (b.nothing_else since image (omega (arith, le, a.later)) was) [
+    | inl before ↦ a.nothing_else since image le before
+    | inr within ↦ inr within
+  ];
+  keeps = λ since image le was. b.keeps since image (omega (arith, le, a.later)) (a.keeps since image le was);
+}
+
+-- the second of them leaves nothing that the first does not allow
+pub Elapses-more : (first second third : ℕ) (one two three : ℕ → List Sector → Type 0) (P Q : List Sector → Type 0)
+    → Elapses first second one two P → Elapses second third two three Q → ((image : List Sector) → Q image → P image) → Elapses first third one three P
+Elapses-more first second third one two three P Q a b weaker =
+    Elapses-both first second third one two three P a (Elapses-weaker second third two three Q P weaker b)

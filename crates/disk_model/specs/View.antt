@@ -1,9 +1,10 @@
 -- What a call over a disk leaves that does nothing but read.
 use Rattle.std.specs.Prelude.{◌≡◌, ℕ, Bool, IsTrue, List, refl}
-use Rattle.std.proofs.Common.{◌∙◌, subst, inl, inr, arith}
+use Rattle.std.proofs.Common.{◌∙◌, subst, arith}
 use Rattle.life_bytes.specs.declared.sector.Sector.{Sector}
 use Rattle.life_ports.specs.Faults.{NeverFalls}
 use Rattle.disk_model.specs.Disk.{Cell, IsImage, Elapses, Arming}
+use Rattle.disk_model.specs.DiskLaws.{Elapses-none, Elapses-both}
 
 -- Between two states of a disk there were only reads: it holds the same, nothing else is armed, and what a stop may have left
 -- since any moment, it might have left before, or it is an image of what the disk holds. Its count of faults may have risen.
@@ -16,19 +17,6 @@ pub record OnlyRead {D : Type 0} (known : Bool) (cells : D → List Cell) (secto
   pub time : IsTrue known → Elapses (moment old) (moment new) (left old) (left new) (IsImage (cells old))
 
 -- ---- no read, and more reads
-
-Elapses-none : (moment : ℕ) (left : ℕ → List Sector → Type 0) (in_call : List Sector → Type 0) → Elapses moment moment left left in_call
-Elapses-none moment left in_call = record { later = omega arith; nothing_else = λ since image le was. inl was; keeps = λ since image le was. was }
-
-Elapses-both : (first second third : ℕ) (one two three : ℕ → List Sector → Type 0) (in_call : List Sector → Type 0) → Elapses first second one two in_call → Elapses second third two three in_call → Elapses first third one three in_call
-Elapses-both first second third one two three in_call a b = record {
-  later = omega (arith, a.later, b.later);
-  nothing_else = λ since image le was. elim (b.nothing_else since image (omega (arith, le, a.later)) was) [
-    | inl before ↦ a.nothing_else since image le before
-    | inr within ↦ inr within
-  ];
-  keeps = λ since image le was. b.keeps since image (omega (arith, le, a.later)) (a.keeps since image le was);
-}
 
 pub OnlyRead-none : {D : Type 0} (known : Bool) (cells : D → List Cell) (sector_count fault_count : D → ℕ) (arming : D → Arming)
     (moment : D → ℕ) (left : D → ℕ → List Sector → Type 0) (disk : D) → OnlyRead known cells sector_count fault_count arming moment left disk disk

@@ -1,9 +1,11 @@
 // What every disk promises, whatever keeps its sectors.
 
-ghost use Rattle.std.specs.Prelude.{◌≡◌, ◌≤◌, ◌<◌, ◌+◌, ℕ, Bool, List, [], length, IsTrue, OnOk, OnErr, slice_get, Some, map};
+ghost use Rattle.std.specs.Prelude.{◌≡◌, ◌≤◌, ◌<◌, ◌+◌, ⊤, ℕ, Bool, List, [], length, IsTrue, OnOk, OnErr, slice_get, Some, map};
 ghost use Rattle.life_bytes.specs.declared.sector.Sector.{Sector};
 ghost use Rattle.life_ports.specs.Faults.{HasCause};
 ghost use Rattle.disk_model.specs.Disk.{Cell, IsImage, as_read, written, flushed, IsPartlyWritten, Elapses, Arming, unarmed, after_write};
+ghost use Rattle.disk_model.specs.Disk.{CallKind, FailsAs};
+ghost use Rattle.disk_model.specs.Disk.CallKind.{ReadCall, WriteCall, FlushCall};
 
 use life_bytes::Sector;
 use life_ports::Failed;
@@ -36,6 +38,10 @@ pub trait Disk: Drop {
     /// and none, but for a kind that tests stops.
     ghost arming: { Self → Arming } = { λ _. unarmed };
 
+    /// Between two states of a disk there were calls, and of those only calls of this kind failed. So code over
+    /// every disk can be held to name the kind of call that failed. A kind of disk may say what it knows of that.
+    ghost only_failed: { CallKind → Self → Self → Type 0 } = { λ _ _ _. ⊤ };
+
     /// The number of sectors.
     fn sectors(&self) -> u64
         ensures { result ≡ sector_count self.now };
@@ -53,6 +59,7 @@ pub trait Disk: Drop {
             (left_since self.new) (IsImage (cells self.old)) }
         ensures sectors { sector_count self.new ≡ sector_count self.old }
         ensures arming { arming self.new ≡ arming self.old }
+        ensures kind { FailsAs ReadCall result (λ kind. only_failed kind self.old self.new) }
         ensures cause { HasCause result (fault_count self.old) (fault_count self.new) };
 
     /// Writes whole sectors, the first of them the sector `at`.
@@ -65,6 +72,7 @@ pub trait Disk: Drop {
             (left_since self.new) (IsImage (written at pieces.now (cells self.old))) }
         ensures sectors { sector_count self.new ≡ sector_count self.old }
         ensures arming { arming self.new ≡ after_write (arming self.old) }
+        ensures kind { FailsAs WriteCall result (λ kind. only_failed kind self.old self.new) }
         ensures cause { HasCause result (fault_count self.old) (fault_count self.new) };
 
     /// After it has succeeded, a stop leaves what a read gives. One that failed settles nothing.
@@ -75,6 +83,7 @@ pub trait Disk: Drop {
             (left_since self.new) (IsImage (cells self.old)) }
         ensures sectors { sector_count self.new ≡ sector_count self.old }
         ensures arming { arming self.new ≡ arming self.old }
+        ensures kind { FailsAs FlushCall result (λ kind. only_failed kind self.old self.new) }
         ensures cause { HasCause result (fault_count self.old) (fault_count self.new) };
 
     /// Each sector has its cell.
@@ -87,4 +96,11 @@ pub trait Disk: Drop {
     /// Since this moment there is no other.
     ghost only_now: { IsTrue known → (disk : Self) (image : List Sector)
         → left_since disk (moment disk) image → IsImage (cells disk) image };
+
+    /// Where no call was made, none failed.
+    ghost none_failed: { (kind : CallKind) (disk : Self) → only_failed kind disk disk };
+
+    /// What holds of calls and of the calls behind them holds of all.
+    ghost both_failed: { (kind : CallKind) (first second third : Self) → only_failed kind first second
+        → only_failed kind second third → only_failed kind first third };
 }

@@ -3,7 +3,8 @@ ghost use Rattle.std.specs.Prelude.{◌≡◌, ◌<◌, ◌≤◌, ◌+◌, [], 
 ghost use Rattle.life_bytes.specs.Sectors.{zero_sector};
 ghost use Rattle.life_ports.specs.FaultPlan.{FailsNext, plan_after_call, after_fault};
 ghost use Rattle.life_ports.specs.Faults.{HasCause};
-ghost use Rattle.disk_model.specs.Disk.{IsImage, as_read, settled_as, written, flushed, IsPartlyWritten, Elapses};
+ghost use Rattle.disk_model.specs.Disk.{IsImage, as_read, settled_as, written, flushed, IsPartlyWritten, Elapses, FailsAs};
+ghost use Rattle.disk_model.specs.Disk.CallKind.{ReadCall, WriteCall, FlushCall};
 ghost use Rattle.disk_model.specs.FaultDisk.{FailsHere};
 
 use crate::{Blank, Disk};
@@ -70,11 +71,17 @@ impl<D: Disk> Disk for FaultDisk<D> {
 
     ghost left_since = { λ disk. D.left_since disk.inner };
 
+    ghost only_failed = { λ kind old new. D.only_failed kind old.inner new.inner };
+
     ghost cells_fit = { λ known disk. D.cells_fit known disk.inner };
 
     ghost counts_now = { λ known disk. D.counts_now known disk.inner };
 
     ghost only_now = { λ known disk. D.only_now known disk.inner };
+
+    ghost none_failed = { λ kind disk. D.none_failed kind disk.inner };
+
+    ghost both_failed = { λ kind first second third. D.both_failed kind first.inner second.inner third.inner };
 
     fn sectors(&self) -> u64 {
         self.inner.sectors()
@@ -102,6 +109,7 @@ impl<D: Disk> Disk for FaultDisk<D> {
             (D.left_since (inner_of self.old)) (D.left_since (inner_of self.new))
             (IsImage (D.cells (inner_of self.old))) }
         ensures sectors { D.sector_count (inner_of self.new) ≡ D.sector_count (inner_of self.old) }
+        ensures kind { FailsAs ReadCall result (λ kind. D.only_failed kind (inner_of self.old) (inner_of self.new)) }
         ensures cause { HasCause result (plan_of self.old).faults (plan_of self.new).faults }
     {
         self.plan.call()?;
@@ -131,6 +139,7 @@ impl<D: Disk> Disk for FaultDisk<D> {
             (D.left_since (inner_of self.old)) (D.left_since (inner_of self.new))
             (IsImage (written at pieces.now (D.cells (inner_of self.old)))) }
         ensures sectors { D.sector_count (inner_of self.new) ≡ D.sector_count (inner_of self.old) }
+        ensures kind { FailsAs WriteCall result (λ kind. D.only_failed kind (inner_of self.old) (inner_of self.new)) }
         ensures cause { HasCause result (plan_of self.old).faults (plan_of self.new).faults }
     {
         self.plan.call()?;
@@ -156,6 +165,7 @@ impl<D: Disk> Disk for FaultDisk<D> {
             (D.left_since (inner_of self.old)) (D.left_since (inner_of self.new))
             (IsImage (D.cells (inner_of self.old))) }
         ensures sectors { D.sector_count (inner_of self.new) ≡ D.sector_count (inner_of self.old) }
+        ensures kind { FailsAs FlushCall result (λ kind. D.only_failed kind (inner_of self.old) (inner_of self.new)) }
         ensures cause { HasCause result (plan_of self.old).faults (plan_of self.new).faults }
     {
         self.plan.call()?;

@@ -167,6 +167,10 @@ impl Disk for MemoryDisk {
 
     ghost only_now = { λ _ disk image. only_left disk image };
 
+    ghost none_failed = { λ kind disk. tt };
+
+    ghost both_failed = { λ kind first second third one two. tt };
+
     fn sectors(&self) -> u64 {
         self.sectors.len() as u64
     }

@@ -1,7 +1,8 @@
 // A disk that stops within a chosen write.
 ghost use Rattle.std.specs.Prelude.{◌≡◌, ◌<◌, ◌≤◌, ◌+◌, ℕ, true, false, None, Some, length, take, IsTrue, IsErr, OnOk, OnErr, slice_get};
 ghost use Rattle.life_ports.specs.Faults.{HasCause, next_count};
-ghost use Rattle.disk_model.specs.Disk.{IsImage, as_read, written, flushed, IsPartlyWritten, Elapses, unarmed, after_write};
+ghost use Rattle.disk_model.specs.Disk.{IsImage, as_read, written, flushed, IsPartlyWritten, Elapses, FailsAs, unarmed, after_write};
+ghost use Rattle.disk_model.specs.Disk.CallKind.{ReadCall, WriteCall, FlushCall};
 
 use crate::{Disk, Stops};
 use life_bytes::Sector;
@@ -104,6 +105,7 @@ impl<D: Disk> StopDisk<D> {
         ensures time { IsTrue D.known → Elapses (D.moment (inner_of self.old)) (D.moment (inner_of self.new))
             (D.left_since (inner_of self.old)) (D.left_since (inner_of self.new))
             (IsImage (written at (take sectors pieces.now) (D.cells (inner_of self.old)))) }
+        ensures kind { D.only_failed WriteCall (inner_of self.old) (inner_of self.new) }
         ensures sectors { D.sector_count (inner_of self.new) ≡ D.sector_count (inner_of self.old) }
         ensures count { D.fault_count (inner_of self.old) ≤ D.fault_count (inner_of self.new) }
     {
@@ -134,11 +136,17 @@ impl<D: Disk> Disk for StopDisk<D> {
 
     ghost arming = { λ disk. arming_of disk };
 
+    ghost only_failed = { λ kind old new. D.only_failed kind old.inner new.inner };
+
     ghost cells_fit = { λ known disk. D.cells_fit known disk.inner };
 
     ghost counts_now = { λ known disk. D.counts_now known disk.inner };
 
     ghost only_now = { λ known disk. D.only_now known disk.inner };
+
+    ghost none_failed = { λ kind disk. D.none_failed kind disk.inner };
+
+    ghost both_failed = { λ kind first second third. D.both_failed kind first.inner second.inner third.inner };
 
     fn sectors(&self) -> u64 {
         self.inner.sectors()
@@ -168,6 +176,7 @@ impl<D: Disk> Disk for StopDisk<D> {
             (IsImage (D.cells (inner_of self.old))) }
         ensures sectors { D.sector_count (inner_of self.new) ≡ D.sector_count (inner_of self.old) }
         ensures arming { arming_of self.new ≡ arming_of self.old }
+        ensures kind { FailsAs ReadCall result (λ kind. D.only_failed kind (inner_of self.old) (inner_of self.new)) }
         ensures cause { HasCause result (faults_of D.fault_count self.old) (faults_of D.fault_count self.new) }
     {
         self.go_on()?;
@@ -201,6 +210,7 @@ impl<D: Disk> Disk for StopDisk<D> {
             (IsImage (written at pieces.now (D.cells (inner_of self.old)))) }
         ensures sectors { D.sector_count (inner_of self.new) ≡ D.sector_count (inner_of self.old) }
         ensures arming { arming_of self.new ≡ after_write (arming_of self.old) }
+        ensures kind { FailsAs WriteCall result (λ kind. D.only_failed kind (inner_of self.old) (inner_of self.new)) }
         ensures cause { HasCause result (faults_of D.fault_count self.old) (faults_of D.fault_count self.new) }
     {
         self.go_on()?;
@@ -236,6 +246,7 @@ impl<D: Disk> Disk for StopDisk<D> {
             (IsImage (D.cells (inner_of self.old))) }
         ensures sectors { D.sector_count (inner_of self.new) ≡ D.sector_count (inner_of self.old) }
         ensures arming { arming_of self.new ≡ arming_of self.old }
+        ensures kind { FailsAs FlushCall result (λ kind. D.only_failed kind (inner_of self.old) (inner_of self.new)) }
         ensures cause { HasCause result (faults_of D.fault_count self.old) (faults_of D.fault_count self.new) }
     {
         self.go_on()?;

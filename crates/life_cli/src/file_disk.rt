@@ -98,6 +98,10 @@ impl Disk for FileDisk {
     ghost counts_now = { λ known. unknown known };
 
     ghost only_now = { λ known. unknown known };
+
+    ghost none_failed = { λ kind disk. tt };
+
+    ghost both_failed = { λ kind first second third one two. tt };
 }
 
 /// A file that was given as a disk.
