@@ -189,4 +189,5 @@ stands empty encodes g image shape finished =
       subst (λ (t : Table). Represents image t 1) (closed_empty g)
           (encodes g (empty_of g) [] base image g.ring 1 has finished.size (anchor_there g image shape finished) (ring_below g image shape finished)
           (can_encode g base shape (well_formed empty g shape) (omega arith)) (groups_encoded g image finished)),
+      finished,
     )

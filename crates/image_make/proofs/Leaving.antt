@@ -1,34 +1,19 @@
 -- What several calls of a disk leave, one after the other.
-use Rattle.std.proofs.Common.{◌≡◌, ◌+◌, ℕ, zero, suc, Bool, List, refl, sym, ap, subst, ◌∙◌, inl, inr, arith}
-use Rattle.std.specs.Prelude.{IsTrue, Result, Ok, Err, OnOk, OnErr}
+use Rattle.std.proofs.Common.{◌≡◌, ℕ, Bool, List, refl, ap, subst, ◌∙◌}
+use Rattle.std.specs.Prelude.{⊤, IsTrue, Result, Ok, Err, OnOk, OnErr}
 use Rattle.life_bytes.specs.declared.sector.Sector.{Sector}
-use Rattle.disk_model.specs.Disk.{Arming, Cell, Elapses, IsImage, IsPartlyWritten, after_write, flushed, written}
-use Rattle.disk_model.specs.DiskLaws.{IsAfterWrites-both, IsAfterWrites-none, IsImage-before_flush, IsImage-partly_written}
-use Rattle.image_make.specs.Outcome.{LeavesOnly}
-
-weaker : (before now : ℕ) (past since : ℕ → List Sector → Type 0) (P Q : List Sector → Type 0) → ((image : List Sector) → P image → Q image)
-    → Elapses before now past since P → Elapses before now past since Q
-weaker before now past since P Q has time = record {
-  later = time.later;
-  nothing_else = λ moment image le left. elim (time.nothing_else moment image le left) [ inl was ↦ inl was | inr is ↦ inr (has image is) ];
-  keeps = time.keeps;
-}
-
-both : (a b d : ℕ) (past mid since : ℕ → List Sector → Type 0) (P : List Sector → Type 0) → Elapses a b past mid P → Elapses b d mid since P → Elapses a d past since P
-both a b d past mid since P first second = record {
-  later = omega (arith, first.later, second.later);
-  nothing_else = λ moment image le left. elim (second.nothing_else moment image (omega (arith, first.later)) left) [
-    | inl was ↦ first.nothing_else moment image le was
-    | inr is ↦ inr is
-  ];
-  keeps = λ moment image le left. second.keeps moment image (omega (arith, first.later)) (first.keeps moment image le left);
-}
+use Rattle.disk_model.specs.Disk.{Arming, CallKind, Cell, Elapses, FailsAs, IsImage, IsPartlyWritten, after_write, flushed, written}
+use Rattle.disk_model.specs.Disk.CallKind.{FlushCall, WriteCall}
+use Rattle.disk_model.specs.DiskLaws.{Elapses-both, Elapses-none, Elapses-weaker, IsAfterWrites-both, IsAfterWrites-none, IsImage-before_flush, IsImage-partly_written}
+use Rattle.image_make.specs.declared.fault.MakeFault.{MakeFault}
+use Rattle.image_make.specs.declared.fault.MakeFault.TheVariants.{FlushFault, WriteFault}
+use Rattle.image_make.specs.Outcome.{FailedOnly, LeavesOnly}
 
 pub leaves_none : {D : Type 0} (known : Bool) (cells : D → List Cell) (sector_count moment : D → ℕ) (arming : D → Arming) (left : D → ℕ → List Sector → Type 0) (P : List Sector → Type 0)
     (disk : D) → (IsTrue known → (image : List Sector) → IsImage (cells disk) image → P image) → LeavesOnly known cells sector_count moment arming left P disk disk
 leaves_none known cells sector_count moment arming left P disk has = record {
   images = has;
-  moments = λ tells. record { later = omega arith; nothing_else = λ moment image le left. inl left; keeps = λ moment image le left. left };
+  moments = λ tells. Elapses-none (moment disk) (left disk) P;
   sectors = refl;
   armed = IsAfterWrites-none (arming disk);
 }
@@ -38,7 +23,7 @@ pub leaves_both : {D : Type 0} (known : Bool) (cells : D → List Cell) (sector_
     → LeavesOnly known cells sector_count moment arming left P a d
 leaves_both known cells sector_count moment arming left P a b d first second = record {
   images = second.images;
-  moments = λ tells. both (moment a) (moment b) (moment d) (left a) (left b) (left d) P (first.moments tells) (second.moments tells);
+  moments = λ tells. Elapses-both (moment a) (moment b) (moment d) (left a) (left b) (left d) P (first.moments tells) (second.moments tells);
   sectors = second.sectors ∙ first.sectors;
   armed = IsAfterWrites-both (arming a) (arming b) (arming d) first.armed second.armed;
 }
@@ -47,7 +32,7 @@ pub leaves_weaker : {D : Type 0} (known : Bool) (cells : D → List Cell) (secto
     (a b : D) → ((image : List Sector) → P image → Q image) → LeavesOnly known cells sector_count moment arming left P a b → LeavesOnly known cells sector_count moment arming left Q a b
 leaves_weaker known cells sector_count moment arming left P Q a b has first = record {
   images = λ tells image is. has image (first.images tells image is);
-  moments = λ tells. weaker (moment a) (moment b) (left a) (left b) P Q has (first.moments tells);
+  moments = λ tells. Elapses-weaker (moment a) (moment b) (left a) (left b) P Q has (first.moments tells);
   sectors = first.sectors;
   armed = first.armed;
 }
@@ -68,7 +53,7 @@ pub leaves_write : {D T E : Type 0} (known : Bool) (cells : D → List Cell) (se
     → LeavesOnly known cells sector_count moment arming left P a b
 leaves_write known cells sector_count moment arming left P a b result at pieces ok err time sectors armed has = record {
   images = λ tells image is. has tells image (after_attempt result at pieces (cells a) (cells b) image (ok tells) (err tells) is);
-  moments = λ tells. weaker (moment a) (moment b) (left a) (left b) (IsImage (written at pieces (cells a))) P (has tells) (time tells);
+  moments = λ tells. Elapses-weaker (moment a) (moment b) (left a) (left b) (IsImage (written at pieces (cells a))) P (has tells) (time tells);
   sectors = sectors;
   armed = (1, armed);
 }
@@ -88,7 +73,20 @@ pub leaves_flush : {D T E : Type 0} (known : Bool) (cells : D → List Cell) (se
     → LeavesOnly known cells sector_count moment arming left P a b
 leaves_flush known cells sector_count moment arming left P a b result ok err time sectors armed has = record {
   images = λ tells image is. has tells image (after_flush result (cells a) (cells b) image (ok tells) err is);
-  moments = λ tells. weaker (moment a) (moment b) (left a) (left b) (IsImage (cells a)) P (has tells) (time tells);
+  moments = λ tells. Elapses-weaker (moment a) (moment b) (left a) (left b) (IsImage (cells a)) P (has tells) (time tells);
   sectors = sectors;
   armed = (0, armed);
 }
+
+-- ---- which calls failed
+
+-- what holds of the last calls holds of all
+pub fails_from : {T E : Type 0} (kind : CallKind) (result : Result T E) (P Q : CallKind → Type 0) → ((other : CallKind) → P other → Q other) → FailsAs kind result P
+    → FailsAs kind result Q
+fails_from kind (Ok x) P Q longer failed = λ other. longer other (failed other)
+fails_from kind (Err e) P Q longer failed = longer kind failed
+
+pub failed_from : (result : Result ⊤ MakeFault) (P Q : CallKind → Type 0) → ((kind : CallKind) → P kind → Q kind) → FailedOnly result P → FailedOnly result Q
+failed_from (Ok x) P Q longer failed = λ kind. longer kind (failed kind)
+failed_from (Err WriteFault) P Q longer failed = longer WriteCall failed
+failed_from (Err FlushFault) P Q longer failed = longer FlushCall failed

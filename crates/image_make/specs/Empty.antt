@@ -30,7 +30,8 @@ pub record AwaitsSuperblock (g : Geometry) (image : List Sector) : Type 0 where
   pub anchor : sector_or_zero image (anchor_of g) ≡ anchor_sector g.ring 1
   pub ring : (s : ℕ) → anchor_of g < s → sector_or_zero image s ≡ zero_sector
 
--- the same with its superblock
+-- The whole image, sector by sector: the superblock; in each group its header, bitmap and page, and zero bytes where the format names nothing; the
+-- anchor of a log that goes on one turn of the ring behind its beginning; and zero bytes from there to the end of the disk.
 pub record IsFinished (g : Geometry) (image : List Sector) : Type 0 where
   pub size : anchor_of g + 1 + g.ring ≤ length image
   pub first : (sector_or_zero image 0).bytes ≡ superblock_encoding g

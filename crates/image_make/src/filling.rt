@@ -2,7 +2,8 @@
 
 ghost use Rattle.std.specs.Prelude.{◌≡◌, ◌+◌, ◌++◌, ◌<◌, ◌≤◌, IsTrue, OnOk, drop, length, take};
 ghost use Rattle.life_ports.specs.Faults.{HasCause};
-ghost use Rattle.disk_model.specs.Disk.{as_read};
+ghost use Rattle.disk_model.specs.Disk.{FailsAs, as_read};
+ghost use Rattle.disk_model.specs.Disk.CallKind.{WriteCall};
 ghost use Rattle.geometry.specs.Shape.{IsGeometry};
 ghost use Rattle.geometry.specs.Places.{anchor_of};
 ghost use Rattle.log_image.specs.Anchor.{anchor_sector};
@@ -27,6 +28,7 @@ fn write_behind<D: Disk>(disk: &mut D, at: u64, pieces: &[Sector]) -> Result<(),
     ensures read { IsTrue D.known → OnOk result (as_read (D.cells disk.new) ≡ take at (as_read (D.cells disk.old)) ++ pieces.now
         ++ drop (at + length pieces.now) (as_read (D.cells disk.old))) }
     ensures cause { HasCause result (D.fault_count disk.old) (D.fault_count disk.new) }
+    ensures kind { FailsAs WriteCall result (λ kind. D.only_failed kind disk.old disk.new) }
 {
     disk.write(at, pieces)
 }
@@ -40,6 +42,7 @@ fn write_groups<D: Disk>(g: &Geometry, disk: &mut D) -> Result<(), Failed>
     ensures leaves { LeavesOnly D.known D.cells D.sector_count D.moment D.arming D.left_since IsBlank disk.old disk.new }
     ensures made { IsTrue D.known → OnOk result (AreMade g.now g.now.groups (as_read (D.cells disk.new))) }
     ensures cause { HasCause result (D.fault_count disk.old) (D.fault_count disk.new) }
+    ensures kind { FailsAs WriteCall result (λ kind. D.only_failed kind disk.old disk.new) }
 {
     let free_blocks = empty_bitmap(g.blocks);
     for group in 0..g.groups {
@@ -71,6 +74,7 @@ pub(crate) fn write_without_superblock<D: Disk>(g: &Geometry, disk: &mut D) -> R
     ensures leaves { LeavesOnly D.known D.cells D.sector_count D.moment D.arming D.left_since IsBlank disk.old disk.new }
     ensures made { IsTrue D.known → OnOk result (AwaitsSuperblock g.now (as_read (D.cells disk.new))) }
     ensures cause { HasCause result (D.fault_count disk.old) (D.fault_count disk.new) }
+    ensures kind { FailsAs WriteCall result (λ kind. D.only_failed kind disk.old disk.new) }
 {
     write_groups(g, disk)?;
     let at = g.groups * (g.blocks * BLOCK_SECTORS);

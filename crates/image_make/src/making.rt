@@ -7,7 +7,7 @@ ghost use Rattle.disk_model.specs.Disk.{HasOneImage, as_read, settled_as};
 ghost use Rattle.geometry.specs.Shape.{IsGeometry};
 ghost use Rattle.geometry.specs.Places.{anchor_of};
 ghost use Rattle.image_make.specs.Empty.{AreMade, IsFinished, AwaitsSuperblock};
-ghost use Rattle.image_make.specs.Outcome.{IsBlank, IsBlankOrEmpty, IsEmptyImage, LeavesBlank, LeavesOnly};
+ghost use Rattle.image_make.specs.Outcome.{FailedOnly, IsBlank, IsBlankOrEmpty, IsEmptyImage, LeavesBlank, LeavesOnly};
 
 use crate::fault::MakeFault;
 use crate::filling::write_without_superblock;
@@ -26,6 +26,7 @@ fn make_without_superblock<D: Disk>(g: &Geometry, disk: &mut D) -> Result<(), Ma
     ensures made { IsTrue D.known → OnOk result (HasOneImage (D.cells disk.new) × AwaitsSuperblock g.now (as_read (D.cells disk.new))) }
     ensures fault { OnErr result (Rose (D.fault_count disk.old) (D.fault_count disk.new)) }
     ensures count { NeverFalls (D.fault_count disk.old) (D.fault_count disk.new) }
+    ensures kind { FailedOnly result (λ kind. D.only_failed kind disk.old disk.new) }
     ensures flush_fault { IsTrue D.known → result ≡ Err MakeFault.FlushFault → AwaitsSuperblock g.now (as_read (D.cells disk.new)) }
 {
     let Ok(()) = write_without_superblock(g, disk) else {
@@ -47,6 +48,7 @@ fn finish<D: Disk>(g: &Geometry, disk: &mut D) -> Result<(), MakeFault>
     ensures made { IsTrue D.known → OnOk result (HasOneImage (D.cells disk.new) × IsEmptyImage g.now (as_read (D.cells disk.new))) }
     ensures fault { OnErr result (Rose (D.fault_count disk.old) (D.fault_count disk.new)) }
     ensures count { NeverFalls (D.fault_count disk.old) (D.fault_count disk.new) }
+    ensures kind { FailedOnly result (λ kind. D.only_failed kind disk.old disk.new) }
     ensures flush_fault { IsTrue D.known → result ≡ Err MakeFault.FlushFault → IsEmptyImage g.now (as_read (D.cells disk.new)) }
 {
     made_images();
@@ -64,17 +66,19 @@ fn finish<D: Disk>(g: &Geometry, disk: &mut D) -> Result<(), MakeFault>
 /// Makes an image without a file on a disk of zero bytes, and takes no memory. The superblock is written last, when all else is durable. So a stop at any
 /// moment, and each fault, leaves an image without a superblock, or the whole one.
 ///
-/// A write fault comes of a write, a flush fault of a flush. Sectors behind the image are left.
+/// Sectors behind the image are left.
 pub fn make<D: Disk>(g: &Geometry, disk: &mut D) -> Result<(), MakeFault>
     requires shape { IsGeometry g.now }
     requires size { anchor_of g.now + 1 + g.now.ring ≤ D.sector_count disk.old }
     requires blank { IsTrue D.known → D.cells disk.old ≡ settled_as (replicate (D.sector_count disk.old) zero_sector) }
-    // What the disk holds then: the image of the table without a file, in each place that a stop may leave.
+    // What the disk holds then: the image of the table without a file, sector by sector, and no other that a stop may leave.
     ensures made { IsTrue D.known → OnOk result (HasOneImage (D.cells disk.new) × IsEmptyImage g.now (as_read (D.cells disk.new))) }
     // At every moment, whatever the answer.
     ensures leaves { LeavesOnly D.known D.cells D.sector_count D.moment D.arming D.left_since (IsBlankOrEmpty g.now) disk.old disk.new }
     ensures fault { OnErr result (Rose (D.fault_count disk.old) (D.fault_count disk.new)) }
     ensures count { NeverFalls (D.fault_count disk.old) (D.fault_count disk.new) }
+    // A write fault comes of a write, a flush fault of a flush.
+    ensures kind { FailedOnly result (λ kind. D.only_failed kind disk.old disk.new) }
     // A flush is tried only when all that comes before it reads as written.
     ensures flush_fault { IsTrue D.known → result ≡ Err MakeFault.FlushFault → AwaitsSuperblock g.now (as_read (D.cells disk.new)) ⊎ IsEmptyImage g.now (as_read (D.cells disk.new)) }
 {

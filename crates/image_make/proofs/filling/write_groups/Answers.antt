@@ -25,4 +25,5 @@ loop-group-preserved g c = record {
       subst (λ (l : List Sector). AreMade c.args.g.now (c.loop-group.group + 1) l) (sym is)
       (made_more c.args.g.now c.loop-group.group head image c.requires.shape c.loop-group-test.true (c.loop-group.invariant.made tells) c.empty_head.ensures.many c.empty_head.ensures.each);
   count = omega (arith, c.loop-group.invariant.count, c.write_behind.ensures.cause.never_falls);
+  kind = λ kind. g.met.D.Disk.both_failed kind c.args.disk.now c.loop-group.disk c.write_behind.new.disk (c.loop-group.invariant.kind kind) (c.in_ok-write_behind.ensures.kind kind);
 }

@@ -2,10 +2,11 @@ use Rattle.std.proofs.Common.{◌≡◌, ◌∙◌, ◌∷◌, [], ℕ, List, sy
 use Rattle.geometry.specs.Places.{anchor_of}
 use Rattle.life_bytes.specs.declared.sector.Sector.{Sector}
 use Rattle.disk_model.specs.Disk.{as_read}
+use Rattle.disk_model.specs.Disk.CallKind.{WriteCall}
 use Rattle.log_image.specs.Anchor.{anchor_sector}
 use Rattle.image_make.specs.Empty.{AwaitsSuperblock}
 use Rattle.image_make.specs.Outcome.{IsBlank}
-use Rattle.image_make.proofs.Leaving.{leaves_both}
+use Rattle.image_make.proofs.Leaving.{fails_from, leaves_both}
 use Rattle.image_make.proofs.Putting.{with_at}
 use Rattle.image_make.proofs.Sectors.{on_ok, awaits_from}
 use Rattle.image_make.proofs.filling.write_without_superblock.Goals as goal
@@ -26,3 +27,10 @@ returns-clause-made g c = λ tells.
     is ∙ ap (λ (at : ℕ). with_at at (sector ∷ []) image) c.from.ensures ∙ ap (λ (s : Sector). with_at (anchor_of c.args.g.now) (s ∷ []) image) c.first_anchor.ensures in
     subst (AwaitsSuperblock c.args.g.now) (sym there) (awaits_from c.args.g.now image (c.in_ok-write_groups.ensures.made tells)))
     (c.write_behind.ensures.read tells)
+
+pub returns-clause-kind : goal.returns-clause-kind
+returns-clause-kind g c =
+    fails_from WriteCall c.write_behind.result (λ kind. g.D.Disk.only_failed kind c.write_groups.new.disk c.write_behind.new.disk)
+    (λ kind. g.D.Disk.only_failed kind c.args.disk.now c.write_behind.new.disk)
+    (λ kind. g.met.D.Disk.both_failed kind c.args.disk.now c.write_groups.new.disk c.write_behind.new.disk (c.in_ok-write_groups.ensures.kind kind))
+    c.write_behind.ensures.kind

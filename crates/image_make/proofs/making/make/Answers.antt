@@ -1,5 +1,5 @@
 use Rattle.image_make.specs.Outcome.{IsBlank, IsBlankOrEmpty}
-use Rattle.image_make.proofs.Leaving.{leaves_both, leaves_weaker}
+use Rattle.image_make.proofs.Leaving.{failed_from, leaves_both, leaves_weaker}
 use Rattle.image_make.proofs.Sectors.{begins_blank, begins_unmade}
 use Rattle.image_make.proofs.making.make.Goals as goal
 
@@ -22,3 +22,10 @@ returns-clause-leaves g c =
     (leaves_weaker g.D.Disk.known g.D.Disk.cells g.D.Disk.sector_count g.D.Disk.moment g.D.Disk.arming g.D.Disk.left_since IsBlank (IsBlankOrEmpty c.args.g.now) c.args.disk.now
     c.make_without_superblock.new.disk (c.made_images.ensures.blank c.args.g.now) c.make_without_superblock.ensures.leaves)
     c.finish.ensures.leaves
+
+pub returns-clause-kind : goal.returns-clause-kind
+returns-clause-kind g c =
+    failed_from c.finish.result (λ kind. g.D.Disk.only_failed kind c.make_without_superblock.new.disk c.finish.new.disk)
+    (λ kind. g.D.Disk.only_failed kind c.args.disk.now c.finish.new.disk)
+    (λ kind. g.met.D.Disk.both_failed kind c.args.disk.now c.make_without_superblock.new.disk c.finish.new.disk (c.in_ok-make_without_superblock.ensures.kind kind))
+    c.finish.ensures.kind
