@@ -33,6 +33,17 @@ impl Model for FreeMap {
 }
 
 impl FreeMap {
+    /// A map of its own of the same blocks. Its words stand in the value itself, so this takes no memory.
+    pub fn copied(&self) -> Self
+        ensures { result ≡ self.now }
+    {
+        FreeMap {
+            words: self.words,
+            blocks: self.blocks,
+            free: self.free,
+        }
+    }
+
     /// How many blocks the group has.
     pub fn blocks(&self) -> u32
         ensures count { result ≡ length self.now }

@@ -29,8 +29,11 @@ fn first_file(rt: HostRuntime) -> Result<(), Fail> {
     assert!(rt; 2 <= map.free());
     assert_eq!(rt; map.lowest(rt.alloc(), 2)?.as_slice(), [32, 33].as_slice());
     assert!(rt; map.is_free(32));
+    let before = map.copied();
     map.take(32);
     assert_eq!(rt; map.free(), 31);
+    assert_eq!(rt; before.free(), 32);
+    assert!(rt; before.is_free(32));
     assert_eq!(rt; map.aligned_run(), Some(40));
     assert!(rt; !map.is_free(32));
     map.give(32);
