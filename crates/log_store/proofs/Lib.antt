@@ -6,3 +6,5 @@ pub mod Lands
 pub mod Launch
 pub mod Ways
 pub mod Jobs
+pub mod Done
+pub mod Whole

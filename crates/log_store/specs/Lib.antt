@@ -4,3 +4,4 @@ pub mod Landed
 pub mod Calls
 pub mod Steps
 pub mod Outcome
+pub mod Actions

@@ -1,11 +1,12 @@
 // Whole jobs.
-ghost use Rattle.std.specs.Prelude.{ℕ, ◌≡◌, ◌<◌, ◌+◌, ◌^◌, ◌↔◌, List, [], false, IsTrue, IfErr, IfOk, OnErr, OnOk};
+ghost use Rattle.std.specs.Prelude.{ℕ, ◌≡◌, ◌<◌, ◌+◌, ◌^◌, ◌↔◌, List, [], false, IsTrue, IfErr, IfOk, None, OnErr, OnOk, ◌≤◌};
 ghost use Rattle.life_bytes.specs.declared.sector.Sector.{Sector};
 ghost use Rattle.disk_model.specs.Disk.{IsAfterWrites, IsImage};
 ghost use Rattle.log_store.specs.OnDisk.{ReplaysTo};
 ghost use Rattle.log_store.specs.declared.store.Job.TheVariants.{Force, Home, Idle, WriteBack};
 ghost use Rattle.log_store.specs.declared.store.Stage.TheVariants.{Down, Free};
-ghost use Rattle.log_store.specs.Outcome.{CoverEndsPast, Covered, IsDone, IsFault, Rises, PositionsStay, covers_of};
+ghost use Rattle.log_store.specs.Actions.{IsWholeJob, last_answer};
+ghost use Rattle.log_store.specs.Outcome.{CoverEndsPast, Covered, IsDone, IsFault, Rises, PositionsStay, covers_of, down_count};
 ghost use Rattle.log_store.specs.State.{state_of};
 ghost use Rattle.log_store.specs.Steps.{Goes, IsStore, JobAsks};
 
@@ -19,6 +20,10 @@ impl<D: Disk> Store<D> {
     fn run(&mut self) -> Result<(), StoreFault>
         requires { IsStore D.known D.cells D.sector_count self.old }
         ensures goes { Goes D.known D.cells D.sector_count D.moment D.left_since self.old self.new }
+        ensures whole { IsWholeJob D.known D.cells D.sector_count D.arming D.fault_count (last_answer result) self.old self.new }
+        ensures count { D.fault_count self.old.disk ≤ D.fault_count self.new.disk }
+        ensures up { OnOk result (down_count self.new.stage ≡ None) }
+        ensures only_down { (fault : ℕ) → result ≡ Err (StoreFault.Down fault) → self.old.stage ≡ Down fault }
         ensures idle { self.new.job ≡ Idle }
         ensures done { OnOk result (IsDone self.old.job (state_of self.new)) }
         ensures rises { Rises (covers_of self.old.job) 0 (state_of self.old) (state_of self.new) }
@@ -43,6 +48,10 @@ impl<D: Disk> Store<D> {
         requires store { IsStore D.known D.cells D.sector_count self.old }
         requires idle { self.old.job ≡ Idle }
         ensures goes { Goes D.known D.cells D.sector_count D.moment D.left_since self.old self.new }
+        ensures whole { IsWholeJob D.known D.cells D.sector_count D.arming D.fault_count (last_answer result) (record self.old { job = Force }) self.new }
+        ensures count { D.fault_count self.old.disk ≤ D.fault_count self.new.disk }
+        ensures up { OnOk result (down_count self.new.stage ≡ None) }
+        ensures only_down { (fault : ℕ) → result ≡ Err (StoreFault.Down fault) → self.old.stage ≡ Down fault }
         ensures idle { self.new.job ≡ Idle }
         ensures all { OnOk result (self.new.queue.items ≡ []) }
         ensures number { IfOk result (λ number. number ≡ self.new.durable) }
@@ -66,6 +75,10 @@ impl<D: Disk> Store<D> {
         requires store { IsStore D.known D.cells D.sector_count self.old }
         requires idle { self.old.job ≡ Idle }
         ensures goes { Goes D.known D.cells D.sector_count D.moment D.left_since self.old self.new }
+        ensures whole { IsWholeJob D.known D.cells D.sector_count D.arming D.fault_count (last_answer result) (record self.old { job = WriteBack }) self.new }
+        ensures count { D.fault_count self.old.disk ≤ D.fault_count self.new.disk }
+        ensures up { OnOk result (down_count self.new.stage ≡ None) }
+        ensures only_down { (fault : ℕ) → result ≡ Err (StoreFault.Down fault) → self.old.stage ≡ Down fault }
         ensures idle { self.new.job ≡ Idle }
         ensures home { OnOk result ((self.new.dirty.images ≡ []) × (self.new.unflushed ≡ false)) }
         ensures stays { PositionsStay (state_of self.old) (state_of self.new) }
@@ -85,6 +98,10 @@ impl<D: Disk> Store<D> {
         requires home { self.old.dirty.images ≡ [] }
         requires flushed { self.old.unflushed ≡ false }
         ensures goes { Goes D.known D.cells D.sector_count D.moment D.left_since self.old self.new }
+        ensures whole { IsWholeJob D.known D.cells D.sector_count D.arming D.fault_count (last_answer result) (record self.old { job = Home }) self.new }
+        ensures count { D.fault_count self.old.disk ≤ D.fault_count self.new.disk }
+        ensures up { OnOk result (down_count self.new.stage ≡ None) }
+        ensures only_down { (fault : ℕ) → result ≡ Err (StoreFault.Down fault) → self.old.stage ≡ Down fault }
         ensures idle { self.new.job ≡ Idle }
         ensures covered { OnOk result (Covered (state_of self.old) (state_of self.new)) }
         ensures failed { OnErr result (PositionsStay (state_of self.old) (state_of self.new)) }

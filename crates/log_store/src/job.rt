@@ -2,6 +2,7 @@
 ghost use Rattle.std.specs.Prelude.{ℕ, ◌≡◌, ◌≢◌, []};
 ghost use Rattle.log_store.specs.declared.store.Job.TheVariants.{Force, Home, Idle, Nothing, WriteBack};
 ghost use Rattle.log_store.specs.declared.store.Stage.TheVariants.{Down, Free};
+ghost use Rattle.log_store.specs.Actions.{IsDoneBy, IsStep, end_job, home_action, room_action};
 ghost use Rattle.log_store.specs.Calls.{Made, device_call};
 ghost use Rattle.log_store.specs.Outcome.{EndsExactly, IsStepOutcome, Rises, StepMoves, covers_of};
 ghost use Rattle.log_store.specs.State.{state_of};
@@ -43,6 +44,7 @@ impl<D: Disk> Store<D> {
     pub fn advance(&mut self) -> Result<Progress, StoreFault>
         requires store { IsStore D.known D.cells D.sector_count self.old }
         ensures goes { Goes D.known D.cells D.sector_count D.moment D.left_since self.old self.new }
+        ensures step { IsStep D.known D.cells D.sector_count D.arming D.fault_count result self.old self.new }
         ensures outcome { IsStepOutcome result (state_of self.old) (state_of self.new) self.old.job self.new.job (D.fault_count self.old.disk) (D.fault_count self.new.disk) }
         ensures end { EndsExactly result (state_of self.old) (state_of self.new) self.old.job }
         ensures moves { StepMoves result self.old.stage (state_of self.old) (state_of self.new) self.old.job }
@@ -67,6 +69,7 @@ impl<D: Disk> Store<D> {
         requires store { IsStore D.known D.cells D.sector_count self.old }
         requires stage { self.old.stage ≡ Free }
         ensures goes { Goes D.known D.cells D.sector_count D.moment D.left_since self.old self.new }
+        ensures step { IsStep D.known D.cells D.sector_count D.arming D.fault_count result self.old self.new }
         ensures outcome { IsStepOutcome result (state_of self.old) (state_of self.new) self.old.job self.new.job (D.fault_count self.old.disk) (D.fault_count self.new.disk) }
         ensures end { EndsExactly result (state_of self.old) (state_of self.new) self.old.job }
         ensures moves { StepMoves result self.old.stage (state_of self.old) (state_of self.new) self.old.job }
@@ -90,6 +93,7 @@ impl<D: Disk> Store<D> {
         requires stage { self.old.stage ≡ Free }
         requires job { self.old.job ≡ Force }
         ensures goes { Goes D.known D.cells D.sector_count D.moment D.left_since self.old self.new }
+        ensures step { IsStep D.known D.cells D.sector_count D.arming D.fault_count result self.old self.new }
         ensures outcome { IsStepOutcome result (state_of self.old) (state_of self.new) self.old.job self.new.job (D.fault_count self.old.disk) (D.fault_count self.new.disk) }
         ensures end { EndsExactly result (state_of self.old) (state_of self.new) self.old.job }
         ensures moves { StepMoves result self.old.stage (state_of self.old) (state_of self.new) self.old.job }
@@ -114,6 +118,7 @@ impl<D: Disk> Store<D> {
         requires stage { self.old.stage ≡ Free }
         requires job { Covering self.old.job }
         ensures goes { Goes D.known D.cells D.sector_count D.moment D.left_since self.old self.new }
+        ensures done { IsDoneBy D.known D.cells D.sector_count D.arming D.fault_count (room_action (state_of self.old)) result self.old.job (state_of self.old) self.old.disk self.new }
         ensures batch { self.new.batch ≡ self.old.batch }
         ensures outcome { IsStepOutcome result (state_of self.old) (state_of self.new) self.old.job self.new.job (D.fault_count self.old.disk) (D.fault_count self.new.disk) }
         ensures end { EndsExactly result (state_of self.old) (state_of self.new) self.old.job }
@@ -136,6 +141,7 @@ impl<D: Disk> Store<D> {
         requires stage { self.old.stage ≡ Free }
         requires job { self.old.job ≡ WriteBack }
         ensures goes { Goes D.known D.cells D.sector_count D.moment D.left_since self.old self.new }
+        ensures done { IsDoneBy D.known D.cells D.sector_count D.arming D.fault_count (home_action self.old.dirty.images self.old.unflushed end_job) result self.old.job (state_of self.old) self.old.disk self.new }
         ensures outcome { IsStepOutcome result (state_of self.old) (state_of self.new) self.old.job self.new.job (D.fault_count self.old.disk) (D.fault_count self.new.disk) }
         ensures end { EndsExactly result (state_of self.old) (state_of self.new) self.old.job }
         ensures moves { StepMoves result self.old.stage (state_of self.old) (state_of self.new) self.old.job }

@@ -7,6 +7,7 @@ ghost use Rattle.log_record.specs.Encoding.{FitsFields, IsRecord, sector_count, 
 ghost use Rattle.log_batch.specs.Newest.{IsBatch, IsCommit};
 ghost use Rattle.log_store.specs.declared.store.Job.TheVariants.{Force, Idle};
 ghost use Rattle.log_store.specs.declared.store.Stage.TheVariants.{Cover, Down, Free, Half, Record};
+ghost use Rattle.log_store.specs.Actions.{IsDoneBy, flush_cover, flush_record, within_positions, write_cover, write_record, write_rest};
 ghost use Rattle.log_store.specs.Calls.{Made, device_call};
 ghost use Rattle.log_store.specs.Outcome.{EndsExactly, IsStepOutcome, Rises, StepMoves, covers_of};
 ghost use Rattle.log_store.specs.State.{state_of};
@@ -104,6 +105,7 @@ impl<D: Disk> Store<D> {
         requires size { self.old.count ≡ sector_count (length self.old.batch) }
         requires room { (self.old.positions.head - self.old.positions.tail) + self.old.count + 1 ≤ self.old.ring }
         ensures goes { Goes D.known D.cells D.sector_count D.moment D.left_since self.old self.new }
+        ensures done { IsDoneBy D.known D.cells D.sector_count D.arming D.fault_count (within_positions (self.old.positions.head + sector_count (length self.old.batch)) write_record) result self.old.job (state_of self.old) self.old.disk self.new }
         ensures outcome { IsStepOutcome result (state_of self.old) (state_of self.new) self.old.job self.new.job (D.fault_count self.old.disk) (D.fault_count self.new.disk) }
         ensures end { EndsExactly result (state_of self.old) (state_of self.new) self.old.job }
         ensures moves { StepMoves result self.old.stage (state_of self.old) (state_of self.new) self.old.job }
@@ -147,6 +149,7 @@ impl<D: Disk> Store<D> {
         requires store { IsStore D.known D.cells D.sector_count self.old }
         requires stage { self.old.stage ≡ Half }
         ensures goes { Goes D.known D.cells D.sector_count D.moment D.left_since self.old self.new }
+        ensures done { IsDoneBy D.known D.cells D.sector_count D.arming D.fault_count write_rest result self.old.job (state_of self.old) self.old.disk self.new }
         ensures outcome { IsStepOutcome result (state_of self.old) (state_of self.new) self.old.job self.new.job (D.fault_count self.old.disk) (D.fault_count self.new.disk) }
         ensures end { EndsExactly result (state_of self.old) (state_of self.new) self.old.job }
         ensures moves { StepMoves result self.old.stage (state_of self.old) (state_of self.new) self.old.job }
@@ -173,6 +176,7 @@ impl<D: Disk> Store<D> {
         requires store { IsStore D.known D.cells D.sector_count self.old }
         requires stage { self.old.stage ≡ Record }
         ensures goes { Goes D.known D.cells D.sector_count D.moment D.left_since self.old self.new }
+        ensures done { IsDoneBy D.known D.cells D.sector_count D.arming D.fault_count flush_record result self.old.job (state_of self.old) self.old.disk self.new }
         ensures outcome { IsStepOutcome result (state_of self.old) (state_of self.new) self.old.job self.new.job (D.fault_count self.old.disk) (D.fault_count self.new.disk) }
         ensures end { EndsExactly result (state_of self.old) (state_of self.new) self.old.job }
         ensures moves { StepMoves result self.old.stage (state_of self.old) (state_of self.new) self.old.job }
@@ -210,6 +214,7 @@ impl<D: Disk> Store<D> {
         requires flushed { self.old.unflushed ≡ false }
         requires job { Covering self.old.job }
         ensures goes { Goes D.known D.cells D.sector_count D.moment D.left_since self.old self.new }
+        ensures done { IsDoneBy D.known D.cells D.sector_count D.arming D.fault_count (within_positions (self.old.positions.head + 1) write_cover) result self.old.job (state_of self.old) self.old.disk self.new }
         ensures batch { self.new.batch ≡ self.old.batch }
         ensures outcome { IsStepOutcome result (state_of self.old) (state_of self.new) self.old.job self.new.job (D.fault_count self.old.disk) (D.fault_count self.new.disk) }
         ensures end { EndsExactly result (state_of self.old) (state_of self.new) self.old.job }
@@ -248,6 +253,7 @@ impl<D: Disk> Store<D> {
         requires store { IsStore D.known D.cells D.sector_count self.old }
         requires stage { self.old.stage ≡ Cover }
         ensures goes { Goes D.known D.cells D.sector_count D.moment D.left_since self.old self.new }
+        ensures done { IsDoneBy D.known D.cells D.sector_count D.arming D.fault_count flush_cover result self.old.job (state_of self.old) self.old.disk self.new }
         ensures outcome { IsStepOutcome result (state_of self.old) (state_of self.new) self.old.job self.new.job (D.fault_count self.old.disk) (D.fault_count self.new.disk) }
         ensures end { EndsExactly result (state_of self.old) (state_of self.new) self.old.job }
         ensures moves { StepMoves result self.old.stage (state_of self.old) (state_of self.new) self.old.job }

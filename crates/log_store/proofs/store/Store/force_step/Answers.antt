@@ -8,6 +8,9 @@ use Rattle.log_store.specs.Steps.{IsStore, JobAsks}
 use Rattle.log_store.proofs.Sound.{job_free}
 use Rattle.log_store.proofs.Ways.{goes_gathered, goes_job}
 use Rattle.log_store.proofs.Launch.{some_taken}
+use Rattle.std.proofs.Common.{◌≤◌}
+use Rattle.log_record.specs.Encoding.{sector_count}
+use Rattle.log_store.proofs.Done.{no_room_step, room_step}
 use Rattle.log_store.proofs.store.Store.force_step.Goals as goal
 
 force_asks : (job : Job) (list : List Commit) (batch : List Image) (ring head tail : ℕ) → job ≡ Force → JobAsks job list batch ring head tail
@@ -33,3 +36,21 @@ clear_step-requires-clause-store g c =
     let some_left : c.args.self.now.queue.items ≡ [] → ⊥ = search rules in
     let no_room : c.gather.new.self.ring < (c.gather.new.self.positions.head - c.gather.new.self.positions.tail) + c.gather.new.self.count + 1 = search rules in
     (goes_job g.D.Disk.known g.D.Disk.cells g.D.Disk.sector_count g.D.Disk.moment g.D.Disk.left_since c.gather.new.self Clear gathered (job_free c.gather.new.self.stage Clear (ap (λ (x : Store g.row.D.Denot). x.stage) c.gather.ensures.rest ∙ c.requires.stage)) (record { some = λ none. some_left (ap (λ (x : Store g.row.D.Denot). x.queue.items) (sym c.gather.ensures.rest) ∙ none); few = c.gather.ensures.batch.few; short = omega (arith, no_room, c.gather.ensures.size) })).store
+
+-- ---- what was done
+
+pub returns-then-fits-clause-step : goal.returns-then-fits-clause-step
+returns-then-fits-clause-step g c =
+    let gathered = c.gather.new.self in
+    let some : c.args.self.now.queue.items ≡ [] → ⊥ = search rules in
+    let room : (gathered.positions.head - gathered.positions.tail) + gathered.count + 1 ≤ gathered.ring = search rules in
+    room_step g.D.Disk.known g.D.Disk.cells g.D.Disk.sector_count g.D.Disk.arming g.D.Disk.fault_count _ c.args.self.now gathered _ gathered.count c.requires.stage c.requires.job some c.gather.ensures.rest c.gather.ensures.batch
+    (omega (arith, room, c.gather.ensures.size)) c.write_record.ensures.done
+
+pub returns-clause-step : goal.returns-clause-step
+returns-clause-step g c =
+    let gathered = c.gather.new.self in
+    let some : c.args.self.now.queue.items ≡ [] → ⊥ = search rules in
+    let short : gathered.ring < (gathered.positions.head - gathered.positions.tail) + gathered.count + 1 = search rules in
+    no_room_step g.D.Disk.known g.D.Disk.cells g.D.Disk.sector_count g.D.Disk.arming g.D.Disk.fault_count _ c.args.self.now gathered _ gathered.count c.requires.stage c.requires.job some c.gather.ensures.rest c.gather.ensures.batch
+    (omega (arith, short, c.gather.ensures.size)) c.clear_step.ensures.done

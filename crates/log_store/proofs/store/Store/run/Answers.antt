@@ -1,9 +1,14 @@
-use Rattle.std.proofs.Common.{subst, length, ◌≡◌, refl, sym, ap, ◌∙◌, arith, Ok, Err}
+use Rattle.std.proofs.Common.{Result, subst, length, ◌≡◌, refl, sym, ap, ◌∙◌, arith, Ok, Err}
 use Rattle.disk_model.specs.DiskLaws.{IsAfterWrites-both, IsAfterWrites-none}
 use Rattle.log_store.specs.declared.store.Store.{Store}
 use Rattle.log_store.proofs.Ways.{goes_both, goes_job}
 use Rattle.log_store.specs.declared.store.Job.TheVariants.{Home, WriteBack}
-use Rattle.log_store.specs.Outcome.{EndsPastAt, StepMoves, covers_of, goal_of}
+use Rattle.log_store.specs.declared.fault.Progress.TheVariants.{Ended}
+use Rattle.log_store.specs.declared.fault.StoreFault.{StoreFault}
+use Rattle.log_store.specs.declared.fault.StoreFault.TheVariants as faults
+use Rattle.log_store.specs.Actions.{IsStep, IsWholeJob, last_answer}
+use Rattle.log_store.proofs.Whole.{answered, counts_rise, last_one, none_down, one_more, up_after}
+use Rattle.log_store.specs.Outcome.{EndsPastAt, IsStepOutcome, StepMoves, covers_of, goal_of}
 use Rattle.log_store.specs.declared.fault.Progress.{Progress}
 use Rattle.log_store.specs.State.{state_of}
 use Rattle.log_store.proofs.Jobs.{armed_made, back_more, ends_home, goes_home, home_more, rises_both, rises_none, stays_both, stays_none, writes_back}
@@ -13,7 +18,7 @@ ok_err : {T E : Type 0} {x : T} {e : E} → Ok x ≡ Err e → ⊥
 ok_err same = cc
 
 pub loop-init : goal.loop-init
-loop-init g c = record { goes = goes_job g.D.Disk.known g.D.Disk.cells g.D.Disk.sector_count g.D.Disk.moment g.D.Disk.left_since c.args.self.now c.args.self.now.job c.requires c.requires.sound.job c.requires.sound.asks; goal = refl; faults = omega arith; rises = rises_none (covers_of c.args.self.now.job) (state_of c.args.self.now); back = λ is. stays_none (state_of c.args.self.now); home = λ is. stays_none (state_of c.args.self.now); at_end = λ is free ends. refl; arming = IsAfterWrites-none (g.D.Disk.arming c.args.self.now.disk); down = λ fault is. refl }
+loop-init g c = record { goes = goes_job g.D.Disk.known g.D.Disk.cells g.D.Disk.sector_count g.D.Disk.moment g.D.Disk.left_since c.args.self.now c.args.self.now.job c.requires c.requires.sound.job c.requires.sound.asks; goal = refl; faults = omega arith; rises = rises_none (covers_of c.args.self.now.job) (state_of c.args.self.now); back = λ is. stays_none (state_of c.args.self.now); home = λ is. stays_none (state_of c.args.self.now); at_end = λ is free ends. refl; arming = IsAfterWrites-none (g.D.Disk.arming c.args.self.now.disk); steps = (0, refl); up = λ fault is. is; down = λ fault is. refl }
 
 pub returns-in_err-advance-clause-goes : goal.returns-in_err-advance-clause-goes
 returns-in_err-advance-clause-goes g c =
@@ -38,6 +43,9 @@ loop-preserved g c =
       goes = goes_both g.D.Disk.known g.D.Disk.cells g.D.Disk.sector_count g.D.Disk.moment g.D.Disk.left_since c.args.self.now c.loop.self c.advance.new.self c.loop.invariant.goes c.advance.ensures.goes;
       goal = out.0 ∙ c.loop.invariant.goal;
       faults = omega (arith, c.loop.invariant.faults, out.2);
+      steps = one_more g.D.Disk.known g.D.Disk.cells g.D.Disk.sector_count g.D.Disk.arming g.D.Disk.fault_count c.args.self.now now c.advance.new.self c.loop.invariant.steps
+          (subst (λ (p : Progress). IsStep g.D.Disk.known g.D.Disk.cells g.D.Disk.sector_count g.D.Disk.arming g.D.Disk.fault_count (Ok p) now c.advance.new.self) c.in-More.is c.in_ok-advance.ensures.step);
+      up = λ fault is. absurd (up_after g.D.Disk.known g.D.Disk.cells g.D.Disk.sector_count g.D.Disk.arming g.D.Disk.fault_count _ now c.advance.new.self c.in_ok-advance.ensures.step fault is);
       down = λ fault is. absurd (ok_err (sym c.in_ok-advance.was ∙ (c.advance.ensures.down fault (ap (λ (x : Store g.row.D.Denot). x.stage) (c.loop.invariant.down fault is) ∙ is)).0));
     }
 
@@ -54,3 +62,34 @@ pub returns-in-Ended-clause-arming : goal.returns-in-Ended-clause-arming
 returns-in-Ended-clause-arming g c =
     IsAfterWrites-both (g.D.Disk.arming c.args.self.now.disk) (g.D.Disk.arming c.loop.self.disk) (g.D.Disk.arming c.advance.new.self.disk) c.loop.invariant.arming
     (armed_made g.D.Disk.known g.D.Disk.cells g.D.Disk.arming _ _ c.loop.self.disk c.advance.new.self.disk c.advance.ensures.call)
+
+pub returns-in_err-advance-clause-whole : goal.returns-in_err-advance-clause-whole
+returns-in_err-advance-clause-whole g c =
+    let same : Err c.in_err-advance.field-0.0 ≡ last_answer c.from_residual.result =
+    sym (ap last_answer (answered c.from_residual.result c.in_err-advance.field-0.0 c.from_residual.ensures.1)) in
+    subst (λ (r : Result Progress StoreFault). IsWholeJob g.D.Disk.known g.D.Disk.cells g.D.Disk.sector_count g.D.Disk.arming g.D.Disk.fault_count r c.args.self.now c.advance.new.self) same
+    (last_one g.D.Disk.known g.D.Disk.cells g.D.Disk.sector_count g.D.Disk.arming g.D.Disk.fault_count (Err c.in_err-advance.field-0.0) c.args.self.now c.loop.self c.advance.new.self c.loop.invariant.steps c.in_err-advance.ensures.step)
+
+pub returns-in-Ended-clause-whole : goal.returns-in-Ended-clause-whole
+returns-in-Ended-clause-whole g c =
+    last_one g.D.Disk.known g.D.Disk.cells g.D.Disk.sector_count g.D.Disk.arming g.D.Disk.fault_count (Ok Ended) c.args.self.now c.loop.self c.advance.new.self c.loop.invariant.steps
+    (subst (λ (p : Progress). IsStep g.D.Disk.known g.D.Disk.cells g.D.Disk.sector_count g.D.Disk.arming g.D.Disk.fault_count (Ok p) c.loop.self c.advance.new.self) c.in-Ended.is c.in_ok-advance.ensures.step)
+
+pub returns-in_err-advance-clause-count : goal.returns-in_err-advance-clause-count
+returns-in_err-advance-clause-count g c =
+    let rise = counts_rise (Err c.in_err-advance.field-0.0) (g.D.Disk.fault_count c.loop.self.disk) (g.D.Disk.fault_count c.advance.new.self.disk) c.in_err-advance.ensures.step.done.count in
+    omega (arith, c.loop.invariant.faults, rise)
+
+pub returns-in-Ended-clause-count : goal.returns-in-Ended-clause-count
+returns-in-Ended-clause-count g c = omega (arith, c.loop.invariant.faults, c.in_ok-advance.ensures.step.done.count)
+
+pub returns-in-Ended-clause-up : goal.returns-in-Ended-clause-up
+returns-in-Ended-clause-up g c = none_down c.advance.new.self.stage (up_after g.D.Disk.known g.D.Disk.cells g.D.Disk.sector_count g.D.Disk.arming g.D.Disk.fault_count _ c.loop.self c.advance.new.self c.in_ok-advance.ensures.step)
+
+pub returns-in_err-advance-clause-only_down : goal.returns-in_err-advance-clause-only_down
+returns-in_err-advance-clause-only_down g c = λ fault is.
+    let both = sym (answered c.from_residual.result c.in_err-advance.field-0.0 c.from_residual.ensures.1) ∙ is in
+    let same : c.in_err-advance.field-0.0 ≡ faults.Down fault = cc in
+    c.loop.invariant.up fault
+    (subst (λ (e : StoreFault). IsStepOutcome (Err e) (state_of c.loop.self) (state_of c.advance.new.self) c.loop.self.job c.advance.new.self.job
+    (g.D.Disk.fault_count c.loop.self.disk) (g.D.Disk.fault_count c.advance.new.self.disk)) same c.in_err-advance.ensures.outcome).1

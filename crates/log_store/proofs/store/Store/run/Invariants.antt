@@ -3,6 +3,7 @@ use Rattle.std.proofs.Common.{◌≡◌, ◌≤◌, ℕ}
 use Rattle.log_store.specs.Outcome.{CoverEndsPast, Rises, PositionsStay, covers_of, goal_of, steps_left}
 use Rattle.disk_model.specs.Disk.{IsAfterWrites}
 use Rattle.log_store.specs.declared.store.Job.TheVariants.{Home, WriteBack}
+use Rattle.log_store.specs.Actions.{GoesOn}
 use Rattle.log_store.specs.State.{state_of}
 use Rattle.log_store.specs.Steps.{Goes}
 use Rattle.log_store.proofs.store.Store.run.Given as goal
@@ -17,6 +18,8 @@ invariant-loop g l = record {
   home : l.fn.self.job ≡ Home → PositionsStay (state_of l.fn.self) (state_of l.self);
   at_end : l.fn.self.job ≡ Home → l.fn.self.stage ≡ Free → CoverEndsPast (state_of l.fn.self) → l.self ≡ l.fn.self;
   arming : IsAfterWrites (g.D.Disk.arming l.fn.self.disk) (g.D.Disk.arming l.self.disk);
+  steps : (n : ℕ) × GoesOn g.D.Disk.known g.D.Disk.cells g.D.Disk.sector_count g.D.Disk.arming g.D.Disk.fault_count n l.fn.self l.self;
+  up : (fault : ℕ) → l.self.stage ≡ Down fault → l.fn.self.stage ≡ Down fault;
   down : (fault : ℕ) → l.fn.self.stage ≡ Down fault → l.self ≡ l.fn.self;
 }
 

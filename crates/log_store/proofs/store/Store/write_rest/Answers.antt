@@ -26,6 +26,8 @@ use Rattle.log_store.specs.declared.fault.Progress.{Progress}
 use Rattle.log_store.specs.declared.fault.StoreFault.{StoreFault}
 use Rattle.log_store.specs.declared.fault.StoreFault.TheVariants.{WriteFault}
 use Rattle.log_store.specs.Calls.{Made, call_at, gathered, write}
+use Rattle.log_store.specs.Actions.{IsDoneBy, write_rest}
+use Rattle.std.proofs.Common.{refl}
 use Rattle.log_store.proofs.store.Store.write_rest.Goals as goal
 
 record_force : (job : Job) → JobFits Half job → JobFits Record job
@@ -156,3 +158,41 @@ returns-in-Err-clause-call g c =
     subst (λ (x : Store g.row.D.Denot). Made g.D.Disk.known g.D.Disk.cells g.D.Disk.arming (call_at old.stage old.job (gathered s (state_of x))) (Err WriteFault) old.disk x.disk) (sym c.go_down.ensures)
     (half_call g.D.Disk.known g.D.Disk.cells g.D.Disk.arming (Err WriteFault) old.stage old.job s old.disk disk c.requires.stage
     (λ tells. subst (λ (l : List Sector). IsPartlyWritten (old.anchor + 1) l cells (g.D.Disk.cells disk)) pieces_is (c.in-Err.ensures.failed tells), c.in-Err.ensures.arming))
+
+-- ---- what was done
+
+pub returns-in-Ok-clause-done : goal.returns-in-Ok-clause-done
+returns-in-Ok-clause-done g c =
+    let old = c.args.self.now in
+    let sound = c.requires.store.sound in
+    let s : State = state_of old in
+    let cells = g.D.Disk.cells old.disk in
+    let disk = c.write.new.self in
+    let fit : IsInFlight s old.sectors.items old.count × (old.ring - old.positions.head % old.ring < old.count) = subst (λ (st : Stage). StageFits st s old.sectors.items old.count) c.requires.stage sound.stage in
+    let pieces_is = rest_pieces old.ring old.positions.head old.count c.straight-part.result old.sectors.items (encoded_record (item_of s)) c.deref.result.now c.deref.ensures.value c.straight-part.ensures.left fit.1 fit.0.encoded in
+    record {
+      answer = (tt, refl);
+      state = refl;
+      job = refl;
+      call = (λ tells. c.in-Ok.ensures.written tells ∙ ap (λ (l : List Sector). written (old.anchor + 1) l cells) pieces_is, c.in-Ok.ensures.arming);
+      size = c.in-Ok.ensures.sectors;
+      count = c.in-Ok.ensures.cause.never_falls;
+    }
+
+pub returns-in-Err-clause-done : goal.returns-in-Err-clause-done
+returns-in-Err-clause-done g c =
+    let old = c.args.self.now in
+    let sound = c.requires.store.sound in
+    let s : State = state_of old in
+    let cells = g.D.Disk.cells old.disk in
+    let disk = c.write.new.self in
+    let fit : IsInFlight s old.sectors.items old.count × (old.ring - old.positions.head % old.ring < old.count) = subst (λ (st : Stage). StageFits st s old.sectors.items old.count) c.requires.stage sound.stage in
+    let pieces_is = rest_pieces old.ring old.positions.head old.count c.straight-part.result old.sectors.items (encoded_record (item_of s)) c.deref.result.now c.deref.ensures.value c.straight-part.ensures.left fit.1 fit.0.encoded in
+    subst (λ (x : Store g.row.D.Denot). IsDoneBy g.D.Disk.known g.D.Disk.cells g.D.Disk.sector_count g.D.Disk.arming g.D.Disk.fault_count write_rest (Err WriteFault) old.job s old.disk x) (sym c.go_down.ensures) (record {
+      answer = tt;
+      state = refl;
+      job = refl;
+      call = (λ tells. subst (λ (l : List Sector). IsPartlyWritten (old.anchor + 1) l cells (g.D.Disk.cells disk)) pieces_is (c.in-Err.ensures.failed tells), c.in-Err.ensures.arming);
+      size = c.in-Err.ensures.sectors;
+      count = (c.in-Err.ensures.cause.never_falls, c.in-Err.ensures.cause.failed);
+    })
