@@ -10,7 +10,7 @@ use Rattle.life_table.specs.Table.{Group, inode_in}
 use Rattle.life_table.specs.Space.{times}
 use Rattle.sound_image.specs.Encoding.{Layouts, head_of, next_in, bucket_list, page_of, header_for}
 use Rattle.encoded_changes.specs.Carry.{Stays}
-use Rattle.encoded_changes.specs.Changes.{PutsFirst, TakesOut}
+use Rattle.encoded_changes.proofs.Listed.{FirstPut, OutTaken}
 use Rattle.encoded_changes.proofs.Places.{header_made, inode_by, page_by, same_metadata}
 
 -- ---- lists
@@ -163,7 +163,7 @@ same_heads g layouts others group chunks page same =
     ∙ ap (header_made g group chunks (page_of layouts group)) same
     ∙ sym (header_is g layouts group chunks)
 
-head_stays : (layouts others : Layouts) (group agino bucket : ℕ) → TakesOut layouts others group agino → head_of (bucket_list layouts group (agino % BUCKETS)) ≢ agino → bucket < BUCKETS
+head_stays : (layouts others : Layouts) (group agino bucket : ℕ) → OutTaken layouts others group agino → head_of (bucket_list layouts group (agino % BUCKETS)) ≢ agino → bucket < BUCKETS
     → head_of (bucket_list others group bucket) ≡ head_of (bucket_list layouts group bucket)
 head_stays layouts others group agino bucket out apart low =
     elim (cases_eq bucket (agino % BUCKETS)) [
@@ -174,7 +174,7 @@ head_stays layouts others group agino bucket out apart low =
 
 -- ---- each place
 
-put_next : (layouts others : Layouts) (group agino place : ℕ) → PutsFirst layouts others group agino → place ≢ agino
+put_next : (layouts others : Layouts) (group agino place : ℕ) → FirstPut layouts others group agino → place ≢ agino
     → next_in (bucket_list others group (place % BUCKETS)) place ≡ next_in (bucket_list layouts group (place % BUCKETS)) place
 put_next layouts others group agino place puts apart =
     elim (cases_eq (place % BUCKETS) (agino % BUCKETS)) [
@@ -183,7 +183,7 @@ put_next layouts others group agino place puts apart =
       | inr other ↦ ap (λ (l : List ℕ). next_in l place) (puts.lists (place % BUCKETS) (omega arith) other)
     ]
 
-pub put_touches : (g : Geometry) (layouts others : Layouts) (group : ℕ) (chunks : Group) (agino place : ℕ) → PutsFirst layouts others group agino → place ≢ agino → place ≢ 2
+pub put_touches : (g : Geometry) (layouts others : Layouts) (group : ℕ) (chunks : Group) (agino place : ℕ) → FirstPut layouts others group agino → place ≢ agino → place ≢ 2
     → Stays g group layouts chunks others chunks place
 put_touches g layouts others group chunks agino place puts apart no_header =
     same_metadata g layouts others group chunks chunks place puts.page
@@ -192,7 +192,7 @@ put_touches g layouts others group chunks agino place puts apart no_header =
     (λ e. page_by g layouts others group chunks puts.page)
     (inode_by g layouts others group place (inode_in chunks place) (put_next layouts others group agino place puts apart))
 
-taken_next : (layouts others : Layouts) (group agino place : ℕ) → TakesOut layouts others group agino → place ≢ agino → next_in (bucket_list layouts group (agino % BUCKETS)) place ≢ agino
+taken_next : (layouts others : Layouts) (group agino place : ℕ) → OutTaken layouts others group agino → place ≢ agino → next_in (bucket_list layouts group (agino % BUCKETS)) place ≢ agino
     → next_in (bucket_list others group (place % BUCKETS)) place ≡ next_in (bucket_list layouts group (place % BUCKETS)) place
 taken_next layouts others group agino place out apart no_pointer =
     elim (cases_eq (place % BUCKETS) (agino % BUCKETS)) [
@@ -201,7 +201,7 @@ taken_next layouts others group agino place out apart no_pointer =
       | inr other ↦ ap (λ (l : List ℕ). next_in l place) (out.lists (place % BUCKETS) (omega arith) other)
     ]
 
-pub taken_touches : (g : Geometry) (layouts others : Layouts) (group : ℕ) (chunks : Group) (agino place : ℕ) → TakesOut layouts others group agino → place ≢ agino
+pub taken_touches : (g : Geometry) (layouts others : Layouts) (group : ℕ) (chunks : Group) (agino place : ℕ) → OutTaken layouts others group agino → place ≢ agino
     → (place ≢ 2) ⊎ (head_of (bucket_list layouts group (agino % BUCKETS)) ≢ agino) → next_in (bucket_list layouts group (agino % BUCKETS)) place ≢ agino
     → Stays g group layouts chunks others chunks place
 taken_touches g layouts others group chunks agino place out apart header no_pointer =

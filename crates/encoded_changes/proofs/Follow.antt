@@ -10,8 +10,8 @@ use Rattle.life_table.specs.declared.table.Chunk.{Chunk}
 use Rattle.life_table.specs.declared.table.Table.{Table}
 use Rattle.life_table.specs.Table.{Group, group_at, inode_in, set_inode, start_of, with_group}
 use Rattle.life_table.specs.Space.{times, insert_chunk, new_chunk}
-use Rattle.sound_image.specs.Encoding.{Layouts, AreLayouts, is_unlinked, is_unlinked_row, bucket_list, page_of, layout_of}
-use Rattle.encoded_changes.specs.Changes.{PutsFirst, TakesOut}
+use Rattle.sound_image.specs.Encoding.{Layout, Layouts, AreLayouts, is_unlinked, is_unlinked_row, bucket_list, page_of, layout_of}
+use Rattle.encoded_changes.proofs.Listed.{FirstPut, OutTaken}
 use Rattle.encoded_changes.proofs.Places.{list_by, page_same}
 use Rattle.encoded_changes.proofs.Inodes.{inode_in-set_other, inode_in-set_same}
 use Rattle.encoded_changes.proofs.Chunks.{inode_in-insert_other}
@@ -28,12 +28,18 @@ Kept layouts group chunks = (bucket agino : ℕ) → bucket < BUCKETS → times 
 
 -- layouts of a table of which one group was replaced
 pub replaced : (t : Table) (layouts others : Layouts) (group : ℕ) (chunks : Group) → AreLayouts t layouts → group < length t.groups
+    → length others ≡ length layouts → length (layout_of others group).buckets ≡ BUCKETS
     → page_of others group ≡ page_of layouts group → ((other : ℕ) → other ≢ group → layout_of others other ≡ layout_of layouts other)
     → Kept others group chunks → AreLayouts (with_group t group chunks) others
-replaced t layouts others group chunks are lt page groups kept =
+replaced t layouts others group chunks are lt same_length many page groups kept =
     let u : Table = with_group t group chunks in
     let long = length-set t.groups group chunks in
     record {
+      groups = same_length ∙ are.groups ∙ sym long;
+      lists = λ k low. elim (cases_eq k group) [
+        | inl own ↦ subst (λ (x : ℕ). length (layout_of others x).buckets ≡ BUCKETS) (sym own) many
+        | inr other ↦ ap (λ (l : Layout). length l.buckets) (groups k other) ∙ are.lists k (omega (arith, long))
+      ];
       pages = λ k low. elim (cases_eq k group) [
         | inl own ↦
             let p : page_of others k ≡ page_of layouts k = subst (λ (x : ℕ). page_of others x ≡ page_of layouts x) (sym own) page in
@@ -100,7 +106,7 @@ times_put : (b x : ℕ) (xs : List ℕ) → b ≢ x → times b (x ∷ xs) ≡ t
 times_put b x xs apart = let other : cond {A = ℕ} (eqb b x) 1 0 ≡ 0 = cond-false (eqb b x) 1 0 (ne_eqb b x apart) in omega (arith, times-cons b x xs)
 
 kept_put : (layouts others : Layouts) (group : ℕ) (chunks : Group) (agino : ℕ) (old new : Inode) → Kept layouts group chunks → inode_in chunks agino ≡ Some old
-    → is_unlinked_row old.row ≡ false → is_unlinked_row new.row ≡ true → PutsFirst layouts others group agino → Kept others group (set_inode chunks agino new)
+    → is_unlinked_row old.row ≡ false → is_unlinked_row new.row ≡ true → FirstPut layouts others group agino → Kept others group (set_inode chunks agino new)
 kept_put layouts others group chunks agino old new kept at was is puts bucket other low =
     let wants : ℕ → ℕ = λ a. wanted a bucket (is_unlinked (inode_in (set_inode chunks agino new) a)) in
     elim (cases_eq bucket (agino % BUCKETS)) [
@@ -144,7 +150,7 @@ times_left (x ∷ xs) b a apart =
     ]
 
 kept_taken : (layouts others : Layouts) (group : ℕ) (chunks : Group) (agino : ℕ) (old new : Inode) → Kept layouts group chunks → inode_in chunks agino ≡ Some old
-    → is_unlinked_row new.row ≡ false → TakesOut layouts others group agino → Kept others group (set_inode chunks agino new)
+    → is_unlinked_row new.row ≡ false → OutTaken layouts others group agino → Kept others group (set_inode chunks agino new)
 kept_taken layouts others group chunks agino old new kept at is out bucket other low =
     let wants : ℕ → ℕ = λ a. wanted a bucket (is_unlinked (inode_in (set_inode chunks agino new) a)) in
     elim (cases_eq bucket (agino % BUCKETS)) [
@@ -214,26 +220,26 @@ pub layouts_same : (t : Table) (layouts : Layouts) (group agino : ℕ) (old new 
     → inode_in (group_at t group) agino ≡ Some old → is_unlinked_row new.row ≡ is_unlinked_row old.row
     → AreLayouts (with_group t group (set_inode (group_at t group) agino new)) layouts
 layouts_same t layouts group agino old new are lt at same =
-    replaced t layouts layouts group (set_inode (group_at t group) agino new) are lt refl (λ other apart. refl)
+    replaced t layouts layouts group (set_inode (group_at t group) agino new) are lt refl (are.lists group lt) refl (λ other apart. refl)
     (kept_same layouts group (group_at t group) agino old new (kept_before t layouts group are lt) at same)
 
 pub layouts_put : (t : Table) (layouts others : Layouts) (group agino : ℕ) (old new : Inode) → AreLayouts t layouts → group < length t.groups
-    → inode_in (group_at t group) agino ≡ Some old → is_unlinked_row old.row ≡ false → is_unlinked_row new.row ≡ true → PutsFirst layouts others group agino
+    → inode_in (group_at t group) agino ≡ Some old → is_unlinked_row old.row ≡ false → is_unlinked_row new.row ≡ true → FirstPut layouts others group agino
     → AreLayouts (with_group t group (set_inode (group_at t group) agino new)) others
 layouts_put t layouts others group agino old new are lt at was is puts =
-    replaced t layouts others group (set_inode (group_at t group) agino new) are lt puts.page puts.groups
+    replaced t layouts others group (set_inode (group_at t group) agino new) are lt puts.long puts.many puts.page puts.groups
     (kept_put layouts others group (group_at t group) agino old new (kept_before t layouts group are lt) at was is puts)
 
 pub layouts_taken : (t : Table) (layouts others : Layouts) (group agino : ℕ) (old new : Inode) → AreLayouts t layouts → group < length t.groups
-    → inode_in (group_at t group) agino ≡ Some old → is_unlinked_row new.row ≡ false → TakesOut layouts others group agino
+    → inode_in (group_at t group) agino ≡ Some old → is_unlinked_row new.row ≡ false → OutTaken layouts others group agino
     → AreLayouts (with_group t group (set_inode (group_at t group) agino new)) others
 layouts_taken t layouts others group agino old new are lt at is out =
-    replaced t layouts others group (set_inode (group_at t group) agino new) are lt out.page out.groups
+    replaced t layouts others group (set_inode (group_at t group) agino new) are lt out.long out.many out.page out.groups
     (kept_taken layouts others group (group_at t group) agino old new (kept_before t layouts group are lt) at is out)
 
 pub layouts_chunk : (t : Table) (layouts : Layouts) (group block : ℕ) → AreLayouts t layouts → group < length t.groups
     → ((agino : ℕ) → start_of agino ≡ (new_chunk block).start → inode_in (group_at t group) agino ≡ None)
     → AreLayouts (with_group t group (insert_chunk (new_chunk block) (group_at t group))) layouts
 layouts_chunk t layouts group block are lt gone =
-    replaced t layouts layouts group (insert_chunk (new_chunk block) (group_at t group)) are lt refl (λ other apart. refl)
+    replaced t layouts layouts group (insert_chunk (new_chunk block) (group_at t group)) are lt refl (are.lists group lt) refl (λ other apart. refl)
     (kept_chunk layouts group (group_at t group) block (kept_before t layouts group are lt) gone)

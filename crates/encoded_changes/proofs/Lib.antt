@@ -3,6 +3,7 @@ pub mod Overlaid
 pub mod Groups
 pub mod Inodes
 pub mod Chunks
+pub mod Listed
 pub mod Buckets
 pub mod Rows
 pub mod Follow

@@ -13,7 +13,8 @@ use Rattle.life_table.specs.Table.{Group, group_at, inode_in, set_inode}
 use Rattle.sound_image.specs.Places.{header_place, sector_in}
 use Rattle.sound_image.specs.Encoding.{Layouts, CanEncode, head_of, header_for, inode_sector, is_unlinked, bucket_list, next_in, page_of}
 use Rattle.encoded_changes.specs.Carry.{IsOfGroup, CarryGroup, image_for}
-use Rattle.encoded_changes.specs.Changes.{HaveSameBlocks, PutsFirst, TakesOut}
+use Rattle.encoded_changes.specs.Changes.{HaveSameBlocks}
+use Rattle.encoded_changes.proofs.Listed.{FirstPut, OutTaken}
 use Rattle.encoded_changes.proofs.Inodes.{inode_in-set_other, inode_in-set_same, inode_touches}
 use Rattle.encoded_changes.proofs.Rows.{row_put, row_taken}
 use Rattle.encoded_changes.proofs.Buckets.{none_before, not_itself, one_before}
@@ -49,7 +50,7 @@ carried_alone g t layouts image group agino old new can lt at same blocks =
     }
 
 pub carried_put : (g : Geometry) (t : Table) (layouts others : Layouts) (image : List Sector) (group agino : ℕ) (old new : Inode) → CanEncode g t layouts image → group < g.groups
-    → inode_in (group_at t group) agino ≡ Some old → is_none new.row ≡ is_none old.row → HaveSameBlocks old new → PutsFirst layouts others group agino
+    → inode_in (group_at t group) agino ≡ Some old → is_none new.row ≡ is_none old.row → HaveSameBlocks old new → FirstPut layouts others group agino
     → CarryGroup g group layouts (group_at t group) others (set_inode (group_at t group) agino new)
     (image_for g group header_place (header_encoding (header_for g group (set_inode (group_at t group) agino new) others)) ∷ image_for g group agino (inode_sector g others group agino new) ∷ [])
 carried_put g t layouts others image group agino old new can lt at same blocks puts =
@@ -91,7 +92,7 @@ no_mark g t layouts image group agino inode can lt at e =
     omega (arith, place.1, can.blocks, most, e)
 
 pub carried_first : (g : Geometry) (t : Table) (layouts others : Layouts) (image : List Sector) (group agino : ℕ) (old new : Inode) → CanEncode g t layouts image → group < g.groups
-    → inode_in (group_at t group) agino ≡ Some old → is_none new.row ≡ is_none old.row → HaveSameBlocks old new → TakesOut layouts others group agino
+    → inode_in (group_at t group) agino ≡ Some old → is_none new.row ≡ is_none old.row → HaveSameBlocks old new → OutTaken layouts others group agino
     → head_of (bucket_list layouts group (agino % BUCKETS)) ≡ agino
     → CarryGroup g group layouts (group_at t group) others (set_inode (group_at t group) agino new)
     (image_for g group header_place (header_encoding (header_for g group (set_inode (group_at t group) agino new) others)) ∷ image_for g group agino (inode_sector g others group agino new) ∷ [])
@@ -116,7 +117,7 @@ carried_first g t layouts others image group agino old new can lt at same blocks
     }
 
 pub carried_later : (g : Geometry) (t : Table) (layouts others : Layouts) (image : List Sector) (group agino before : ℕ) (old new other : Inode) → CanEncode g t layouts image → group < g.groups
-    → inode_in (group_at t group) agino ≡ Some old → is_none new.row ≡ is_none old.row → HaveSameBlocks old new → TakesOut layouts others group agino
+    → inode_in (group_at t group) agino ≡ Some old → is_none new.row ≡ is_none old.row → HaveSameBlocks old new → OutTaken layouts others group agino
     → inode_in (group_at t group) before ≡ Some other → next_in (bucket_list layouts group (agino % BUCKETS)) before ≡ agino
     → CarryGroup g group layouts (group_at t group) others (set_inode (group_at t group) agino new)
     (image_for g group before (inode_sector g others group before other) ∷ image_for g group agino (inode_sector g others group agino new) ∷ [])

@@ -8,15 +8,17 @@ use Rattle.life_limits.specs.declared.TheConstants.{BLOCK_SECTORS, BUCKETS, CHUN
 use Rattle.geometry.specs.declared.shape.Geometry.{Geometry}
 use Rattle.ag_header.specs.Headers.{header_encoding}
 use Rattle.ag_header.specs.declared.agi.Agi.{Agi}
-use Rattle.inode_core.specs.Cores.{core_encoding}
+use Rattle.extent_fork.specs.Inodes.{inode_encoding}
 use Rattle.inobt_leaf.specs.Pages.{page_encoding}
 use Rattle.life_table.specs.declared.table.Chunk.{Chunk}
 use Rattle.free_map.specs.Bitmap.{bitmap}
 use Rattle.life_table.specs.declared.table.Inode.{Inode}
 use Rattle.life_table.specs.Table.{Group, inode_in}
-use Rattle.sound_image.specs.Places.{part, sector_in, number_in}
+use Rattle.geometry.specs.Places.{number_in}
+use Rattle.life_table.specs.Space.{row_blocks}
+use Rattle.sound_image.specs.Places.{part, sector_in}
 use Rattle.sound_image.specs.Rules.{free_set}
-use Rattle.sound_image.specs.Encoding.{Layout, Layouts, layout_of, page_of, bucket_list, header_for, inode_sector, page_place, page_bytes, metadata, head_of, next_in, free_count, chunk_record, core_for, fork_for}
+use Rattle.sound_image.specs.Encoding.{Layout, Layouts, layout_of, page_of, bucket_list, header_for, inode_sector, page_place, page_bytes, metadata, head_of, next_in, free_count, chunk_record, core_for}
 
 -- a header, by what changes in it
 abbrev pub header_made : Geometry → ℕ → Group → ℕ → List ℕ → Agi
@@ -94,7 +96,7 @@ pub inode_by : (g : Geometry) (layouts others : Layouts) (group agino : ℕ) (in
 unfolding inode_sector
 inode_by g layouts others group agino None same = refl
 inode_by g layouts others group agino (Some inode) same =
-    ap (λ (n : ℕ). Some (core_encoding (core_for inode.generation inode.row n) (number_in group agino) g.uuid (fork_for group inode.row))) same
+    ap (λ (n : ℕ). Some (inode_encoding (core_for inode.generation inode.row n) (number_in group agino) g.uuid group (row_blocks inode.row))) same
 
 pub list_by : (layouts others : Layouts) (group bucket : ℕ) → layout_of others group ≡ layout_of layouts group → bucket_list others group bucket ≡ bucket_list layouts group bucket
 unfolding bucket_list

@@ -69,7 +69,7 @@ unfolding new_chunk
 new_start block = refl
 
 unchanged : (t : Table) (layouts : Layouts) (group : ℕ) → AreLayouts t layouts → group < length t.groups → AreLayouts (with_group t group (group_at t group)) layouts
-unchanged t layouts group are lt = replaced t layouts layouts group (group_at t group) are lt refl (λ other apart. refl) (kept_before t layouts group are lt)
+unchanged t layouts group are lt = replaced t layouts layouts group (group_at t group) are lt refl (are.lists group lt) refl (λ other apart. refl) (kept_before t layouts group are lt)
 
 with_place : (t : Table) (layouts : Layouts) (group : ℕ) (place : Option ℕ) → AreLayouts t layouts → group < length t.groups → chunk_place t.blocks (group_at t group) ≡ place
     → AreLayouts (with_group t group (with_chunk (group_at t group) place)) layouts

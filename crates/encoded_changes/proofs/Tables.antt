@@ -20,6 +20,7 @@ use Rattle.life_table.specs.WellFormed.{IsTable}
 use Rattle.sound_image.specs.Encoding.{Layouts, AreLayouts, CanEncode, is_unlinked_row, layout_of, encoded}
 use Rattle.encoded_changes.specs.Carry.{CarryGroup}
 use Rattle.encoded_changes.specs.Changes.{FollowInode, Relists}
+use Rattle.encoded_changes.proofs.Listed.{first_put, out_taken}
 use Rattle.encoded_changes.proofs.Rows.{own_group}
 use Rattle.encoded_changes.proofs.Prepared.{layouts_prepared}
 use Rattle.encoded_changes.proofs.OneList.{carried_in_group}
@@ -66,8 +67,8 @@ has_group t number inode at =
 relisted : (t : Table) (layouts others : Layouts) (group agino : ℕ) (old new : Inode) (was is : Bool) → AreLayouts t layouts → group < length t.groups
     → inode_in (group_at t group) agino ≡ Some old → is_unlinked_row old.row ≡ was → is_unlinked_row new.row ≡ is → Relists layouts group agino was is others
     → AreLayouts (with_group t group (set_inode (group_at t group) agino new)) others
-relisted t layouts others group agino old new false true are lt at e f follow = layouts_put t layouts others group agino old new are lt at e f follow
-relisted t layouts others group agino old new true false are lt at e f follow = layouts_taken t layouts others group agino old new are lt at f follow
+relisted t layouts others group agino old new false true are lt at e f follow = layouts_put t layouts others group agino old new are lt at e f (first_put layouts others group agino follow)
+relisted t layouts others group agino old new true false are lt at e f follow = layouts_taken t layouts others group agino old new are lt at f (out_taken layouts others group agino follow)
 relisted t layouts others group agino old new false false are lt at e f follow =
     subst (AreLayouts (with_group t group (set_inode (group_at t group) agino new))) (sym follow) (layouts_same t layouts group agino old new are lt at (f ∙ sym e))
 relisted t layouts others group agino old new true true are lt at e f follow =
@@ -75,8 +76,8 @@ relisted t layouts others group agino old new true true are lt at e f follow =
 
 other_layouts : (layouts others : Layouts) (group agino : ℕ) (was is : Bool) → Relists layouts group agino was is others
     → (other : ℕ) → other ≢ group → layout_of others other ≡ layout_of layouts other
-other_layouts layouts others group agino false true follow other apart = follow.groups other apart
-other_layouts layouts others group agino true false follow other apart = follow.groups other apart
+other_layouts layouts others group agino false true follow other apart = (first_put layouts others group agino follow).groups other apart
+other_layouts layouts others group agino true false follow other apart = (out_taken layouts others group agino follow).groups other apart
 other_layouts layouts others group agino false false follow other apart = ap (λ (l : Layouts). layout_of l other) follow
 other_layouts layouts others group agino true true follow other apart = ap (λ (l : Layouts). layout_of l other) follow
 

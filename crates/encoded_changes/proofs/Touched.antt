@@ -17,6 +17,7 @@ use Rattle.encoded_changes.specs.Carry.{Stays}
 use Rattle.encoded_changes.specs.Changes.{HaveSameBlocks, IsOfBitmap, IsChunkPlace, IsOfNoNewChunk, IsOfPage, Relists, unused_inode}
 use Rattle.encoded_changes.proofs.Chunks.{chunk_touches}
 use Rattle.encoded_changes.proofs.Inodes.{inode_touches}
+use Rattle.encoded_changes.proofs.Listed.{first_put}
 use Rattle.encoded_changes.proofs.Rows.{row_put}
 use Rattle.encoded_changes.proofs.Created.{created_at}
 
@@ -46,7 +47,7 @@ relisted_touches : (g : Geometry) (layouts others : Layouts) (group : ℕ) (chun
     → Relists layouts group agino false is others → inode_in chunks agino ≡ Some old → HaveSameBlocks old new
     → place ≢ header_place → ¬ IsOfPage layouts group place → place ≢ agino → Stays g group layouts chunks others (set_inode chunks agino new) place
 relisted_touches g layouts others group chunks agino old new place true puts at blocks no_header no_page apart =
-    row_put g layouts others group chunks agino old new place puts at apart no_header (inr no_page) (inl blocks)
+    row_put g layouts others group chunks agino old new place (first_put layouts others group agino puts) at apart no_header (inr no_page) (inl blocks)
 relisted_touches g layouts others group chunks agino old new place false same at blocks no_header no_page apart =
     subst (λ (l : Layouts). Stays g group layouts chunks l (set_inode chunks agino new) place) (sym same)
     (inode_touches g layouts group chunks agino old new place at apart (inr (no_header, no_page)) (inl blocks))

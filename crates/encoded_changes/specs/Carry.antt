@@ -1,5 +1,5 @@
 -- Images that carry a change of the groups of an image: put over what encodes a table, they give what encodes the next one.
-use Rattle.std.specs.Prelude.{◌≡◌, ◌≢◌, ◌⊎◌, ◌<◌, ℕ, List, Some, All, Contains, map}
+use Rattle.std.specs.Prelude.{◌≡◌, ◌≢◌, ◌⊎◌, ◌<◌, ℕ, List, Some, All, Contains}
 use Rattle.std.specs.List.Sorted.{IsStrictlyIncreasing}
 use Rattle.log_image.specs.Overlay.{homes}
 use Rattle.geometry.specs.declared.shape.Geometry.{Geometry}

@@ -1,14 +1,14 @@
 -- How the layouts of a table change, and what a change of an inode may touch beside its sector.
-use Rattle.std.specs.Prelude.{◌≡◌, ◌≢◌, ◌⊎◌, ◌+◌, ◌/◌, ◌%◌, ◌<◌, ◌≤◌, ℕ, Bool, true, false, List, ◌∷◌, None, Some, is_some, slice_set}
+use Rattle.std.specs.Prelude.{◌≡◌, ◌⊎◌, ◌+◌, ◌/◌, ◌%◌, ◌<◌, ◌≤◌, ℕ, Bool, true, false, List, None, Some, is_some, length, slice_set}
 use Rattle.life_limits.specs.declared.TheConstants.{BLOCK_SECTORS, BUCKETS, CHUNK_INODES, GROUP_NUMBERS}
-use Rattle.agi_buckets.specs.Buckets.{put_first, take_out, without}
+use Rattle.agi_buckets.specs.Buckets.{put_first, take_out}
 use Rattle.life_table.specs.declared.key.Key.{Key}
 use Rattle.life_table.specs.declared.table.Inode.{Inode}
 use Rattle.life_table.specs.Space.{times, row_blocks, chunk_place, lowest_key, new_chunk}
 use Rattle.life_table.specs.declared.table.Table.{Table}
 use Rattle.life_table.specs.Table.{group_at}
 use Rattle.sound_image.specs.Places.{bitmap_place, bitmap_sectors}
-use Rattle.sound_image.specs.Encoding.{Layouts, layout_of, page_of, page_place, bucket_list, is_unlinked_row}
+use Rattle.sound_image.specs.Encoding.{Layouts, layout_of, page_of, page_place, is_unlinked_row}
 
 -- the place is of the bitmap of a group, of its page, of the chunk that starts at a number
 abbrev pub IsOfBitmap : ℕ → Type 0
@@ -24,20 +24,6 @@ IsChunkPlace start place = (start ≤ place) × (place < start + CHUNK_INODES)
 abbrev pub HaveSameBlocks : Inode → Inode → Type 0
 HaveSameBlocks old new = (block : ℕ) → times block (row_blocks new.row) ≡ times block (row_blocks old.row)
 
--- An inode of a group was put first in the list of its bucket: no other list has changed, no page, and no other group.
-pub record PutsFirst (layouts others : Layouts) (group agino : ℕ) : Type 0 where
-  pub page : page_of others group ≡ page_of layouts group
-  pub own : bucket_list others group (agino % BUCKETS) ≡ agino ∷ bucket_list layouts group (agino % BUCKETS)
-  pub lists : (bucket : ℕ) → bucket < BUCKETS → bucket ≢ agino % BUCKETS → bucket_list others group bucket ≡ bucket_list layouts group bucket
-  pub groups : (other : ℕ) → other ≢ group → layout_of others other ≡ layout_of layouts other
-
--- The same for one that was taken out of the list of its bucket.
-pub record TakesOut (layouts others : Layouts) (group agino : ℕ) : Type 0 where
-  pub page : page_of others group ≡ page_of layouts group
-  pub own : bucket_list others group (agino % BUCKETS) ≡ without (bucket_list layouts group (agino % BUCKETS)) agino
-  pub lists : (bucket : ℕ) → bucket < BUCKETS → bucket ≢ agino % BUCKETS → bucket_list others group bucket ≡ bucket_list layouts group bucket
-  pub groups : (other : ℕ) → other ≢ group → layout_of others other ≡ layout_of layouts other
-
 -- the layouts with other buckets of one group
 abbrev pub with_buckets : Layouts → ℕ → List (List ℕ) → Layouts
 with_buckets layouts group buckets = slice_set layouts group (record { page = page_of layouts group; buckets = buckets })
@@ -48,6 +34,21 @@ put_in layouts group agino = with_buckets layouts group (put_first (layout_of la
 
 abbrev pub taken_from : Layouts → ℕ → ℕ → Layouts
 taken_from layouts group agino = with_buckets layouts group (take_out (layout_of layouts group).buckets agino)
+
+-- a group has a layout, with a list for each bucket, as each group of a table has
+pub record HasLists (layouts : Layouts) (group : ℕ) : Type 0 where
+  pub layout : group < length layouts
+  pub lists : length (layout_of layouts group).buckets ≡ BUCKETS
+
+-- an inode of such a group was put first in the list of its bucket, and nothing else has changed
+pub record PutsFirst (layouts others : Layouts) (group agino : ℕ) : Type 0 where
+  pub had : HasLists layouts group
+  pub made : others ≡ put_in layouts group agino
+
+-- the same for one that was taken out of the list of its bucket
+pub record TakesOut (layouts others : Layouts) (group agino : ℕ) : Type 0 where
+  pub had : HasLists layouts group
+  pub made : others ≡ taken_from layouts group agino
 
 -- How the lists change with an inode of a group, by whether it was in use without links and whether it is then: one that comes to be is put first in its
 -- list, and one that ceases to be is taken out.

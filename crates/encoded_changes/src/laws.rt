@@ -98,9 +98,9 @@ pub fn groups_change_alone()
         → ChangesOnly group t layouts (with_group t group chunks) others }
     ensures encodes { (g : Geometry) (t : Table) (layouts others : Layouts) (image : List Sector) (group : ℕ) (chunks : Group) → CanEncode g t layouts image
         → IsTable (with_group t group chunks) → AreLayouts (with_group t group chunks) others → CanEncode g (with_group t group chunks) others image }
-    ensures put { (layouts : Layouts) (group agino : ℕ) → group < length layouts → length (layout_of layouts group).buckets ≡ BUCKETS
+    ensures put { (t : Table) (layouts : Layouts) (group agino : ℕ) → AreLayouts t layouts → group < length t.groups
         → PutsFirst layouts (put_in layouts group agino) group agino }
-    ensures taken { (layouts : Layouts) (group agino : ℕ) → group < length layouts → length (layout_of layouts group).buckets ≡ BUCKETS
+    ensures taken { (t : Table) (layouts : Layouts) (group agino : ℕ) → AreLayouts t layouts → group < length t.groups
         → TakesOut layouts (taken_from layouts group agino) group agino }
 {}
 

@@ -1,3 +1,4 @@
 pub mod Runs
 pub mod Forks
 pub mod Reading
+pub mod Inodes

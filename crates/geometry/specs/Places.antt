@@ -10,6 +10,10 @@ group_of number = number / GROUP_NUMBERS
 abbrev pub agino_of : ℕ → ℕ
 agino_of number = number % GROUP_NUMBERS
 
+-- the number of the inode at a place of a group
+abbrev pub number_in : ℕ → ℕ → ℕ
+number_in group agino = group * GROUP_NUMBERS + agino
+
 -- sectors of a group
 abbrev pub group_sectors : Geometry → ℕ
 group_sectors g = g.blocks * BLOCK_SECTORS

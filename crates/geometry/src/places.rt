@@ -2,7 +2,7 @@
 
 ghost use Rattle.std.specs.Prelude.{◌≡◌, ◌+◌, ◌*◌, ◌<◌, ℕ};
 ghost use Rattle.geometry.specs.Shape.{IsGeometry};
-ghost use Rattle.geometry.specs.Places.{group_of, agino_of, group_sectors, IsInodeNumber, place_of};
+ghost use Rattle.geometry.specs.Places.{group_of, agino_of, number_in, group_sectors, IsInodeNumber, place_of};
 
 use crate::shape::Geometry;
 use life_limits::{BLOCK_SECTORS, GROUP_NUMBERS, MAX_GROUPS, MAX_NUMBERS};
@@ -11,7 +11,7 @@ use life_limits::{BLOCK_SECTORS, GROUP_NUMBERS, MAX_GROUPS, MAX_NUMBERS};
 pub fn number(group: u32, agino: u32) -> u64
     requires group_small { group < MAX_GROUPS }
     requires agino_small { agino < GROUP_NUMBERS }
-    ensures { result ≡ group * GROUP_NUMBERS + agino }
+    ensures { result ≡ number_in group agino }
 {
     u64::from(group * GROUP_NUMBERS + agino)
 }

@@ -20,7 +20,7 @@ use Rattle.life_table.specs.History.{closed, closed_inode}
 use Rattle.life_table.specs.declared.table.Inode.{Inode}
 use Rattle.life_table.specs.WellFormed.{IsTable}
 use Rattle.sound_image.specs.Places.{bytes_at, sector_in}
-use Rattle.sound_image.specs.Encoding.{Layouts, AreLayouts, CanEncode, layout_of, bucket_list, page_of, metadata, encoded, encoded_bytes, is_unlinked}
+use Rattle.sound_image.specs.Encoding.{Layouts, AreLayouts, CanEncode, HasSameLayouts, metadata, encoded, encoded_bytes, is_unlinked}
 use Rattle.sound_image.specs.Superblocks.{HasSuperblock, IsLongEnough}
 use Rattle.log_image.specs.Anchor.{HasAnchor}
 use Rattle.log_image.specs.Log.{AreBelow, groups_part}
@@ -28,6 +28,7 @@ use Rattle.whole_image.specs.Front.{ring_of}
 use Rattle.whole_image.specs.Represents.{Represents}
 use Rattle.image_make.specs.Empty.{IsFinished, empty_sector, sector_or_zero}
 use Rattle.image_make.specs.Outcome.{IsEmptyImage}
+use Rattle.image_make.proofs.Blank.{as_none, blank_layouts, list_is, lists_each, one_each, page_is}
 use Rattle.image_make.proofs.Places.{at_none}
 
 -- ---- the table
@@ -64,14 +65,21 @@ no_inode g group agino = ap (λ (l : Group). inode_in l agino) (no_chunks g.grou
 in_no_list : (b : Bool) (inode : Option Inode) → inode ≡ None → let count : ℕ = 0 in count ≡ cond (b && is_unlinked inode) 1 0
 in_no_list b inode none = sym (cond-false (b && is_unlinked inode) 1 0 (and_right b (is_unlinked inode) (ap is_unlinked none)))
 
-layouts : (g : Geometry) → AreLayouts (empty_of g) []
-unfolding layout_of bucket_list page_of times
+not_listed : (agino : ℕ) → times agino [] ≡ 0
+unfolding times
+not_listed agino = refl
+
+layouts : (g : Geometry) → AreLayouts (empty_of g) (blank_layouts g)
 layouts g = record {
-  pages = λ group lt. (omega arith, omega arith);
-  buckets = λ group bucket agino lt low. in_no_list (eqb (agino % BUCKETS) bucket) (inode_in (group_at (empty_of g) group) agino) (no_inode g group agino);
+  groups = one_each g ∙ sym (many_groups g.groups);
+  lists = λ group lt. lists_each g group (omega (arith, lt, many_groups g.groups));
+  pages = λ group lt. let is = page_is g group (omega (arith, lt, many_groups g.groups)) in (omega (arith, is), omega (arith, is));
+  buckets = λ group bucket agino lt low.
+      ap (times agino) (list_is g group bucket (omega (arith, lt, many_groups g.groups)) low) ∙ not_listed agino
+      ∙ in_no_list (eqb (agino % BUCKETS) bucket) (inode_in (group_at (empty_of g) group) agino) (no_inode g group agino);
 }
 
-can_encode : (g : Geometry) (base : List Sector) → IsGeometry g → IsTable (empty_of g) → anchor_of g ≤ length base → CanEncode g (empty_of g) [] base
+can_encode : (g : Geometry) (base : List Sector) → IsGeometry g → IsTable (empty_of g) → anchor_of g ≤ length base → CanEncode g (empty_of g) (blank_layouts g) base
 can_encode g base shape table enough =
     record { shape = shape; table = table; groups = many_groups g.groups; blocks = refl; layouts_of = layouts g; size = enough }
 
@@ -179,15 +187,16 @@ pub stands : ((groups blocks : ℕ) → 1 ≤ groups → groups ≤ MAX_GROUPS �
     → ((g : Geometry) (t : Table) (layouts : Layouts) (base image : List Sector) (position next : ℕ) → HasSuperblock g image → IsLongEnough g image
     → HasAnchor image (anchor_of g) g.ring position next → AreBelow (ring_of g image) position → CanEncode g t layouts base
     → groups_part (anchor_of g) image ≡ encoded g t layouts base → Represents image (closed t) next)
+    → ((g : Geometry) (t : Table) (layouts others : Layouts) (image : List Sector) → HasSameLayouts g layouts others → encoded g t others image ≡ encoded g t layouts image)
     → (g : Geometry) (image : List Sector) → IsGeometry g → IsFinished g image → IsEmptyImage g image
 unfolding bytes_at
-stands empty encodes g image shape finished =
+stands empty encodes alike g image shape finished =
     let base : List Sector = base_of g image in
     let long : length base ≡ anchor_of g = length-take-le (anchor_of g) image (omega (arith, finished.size)) in
     let has : HasSuperblock g image = record { shape = shape; encoded = finished.first } in (
       has,
       subst (λ (t : Table). Represents image t 1) (closed_empty g)
-          (encodes g (empty_of g) [] base image g.ring 1 has finished.size (anchor_there g image shape finished) (ring_below g image shape finished)
-          (can_encode g base shape (well_formed empty g shape) (omega arith)) (groups_encoded g image finished)),
+          (encodes g (empty_of g) (blank_layouts g) base image g.ring 1 has finished.size (anchor_there g image shape finished) (ring_below g image shape finished)
+          (can_encode g base shape (well_formed empty g shape) (omega arith)) (groups_encoded g image finished ∙ sym (alike g (empty_of g) [] (blank_layouts g) base (as_none g)))),
       finished,
     )

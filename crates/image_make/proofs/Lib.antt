@@ -1,3 +1,4 @@
+pub mod Blank
 mod Parts
 mod Putting
 mod Places

@@ -8,6 +8,7 @@ ghost use Rattle.image_make.specs.Empty.{IsFinished};
 ghost use Rattle.image_make.specs.Outcome.{IsBlank, IsBlankOrEmpty, IsEmptyImage};
 
 use life_table::tables_stay_well_formed;
+use sound_image::groups_stand_alone;
 use whole_image::{blank_images_are_damaged, encoded_images_represent_their_table};
 
 /// Laws of the sectors: without the superblock an image is damaged, and with it the image represents the empty table.
@@ -18,4 +19,5 @@ pub(crate) fn made_images()
     tables_stay_well_formed();
     encoded_images_represent_their_table();
     blank_images_are_damaged();
+    groups_stand_alone();
 }

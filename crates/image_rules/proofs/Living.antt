@@ -11,7 +11,8 @@ use Rattle.extent_fork.specs.Forks.{HasFork}
 use Rattle.extent_fork.specs.Reading.{ForksAreRead, runs_in}
 use Rattle.extent_fork.specs.Runs.{blocks_of}
 use Rattle.life_table.specs.declared.table.Inode.{Inode}
-use Rattle.sound_image.specs.Places.{bytes_at, sector_in, number_in}
+use Rattle.geometry.specs.Places.{number_in}
+use Rattle.sound_image.specs.Places.{bytes_at, sector_in}
 use Rattle.sound_image.specs.Reading.{core_of, blocks_in}
 use Rattle.sound_image.specs.Rules.{IsCoreRight, IsForkRight}
 

@@ -1,6 +1,7 @@
 -- What the sectors of a page say of a group.
 use Rattle.std.proofs.Common.{◌≡◌, ◌<◌, ◌+◌, ◌*◌, ◌++◌, ℕ, suc, List, [], ◌∷◌, length, refl, ap, sym, subst, ◌∙◌, arith, All, add-zero}
 use Rattle.std.specs.List.{range_with_len, flat_map}
+use Rattle.life_limits.specs.declared.TheConstants.{SECTOR_BYTES}
 use Rattle.life_bytes.specs.declared.sector.Sector.{Sector}
 use Rattle.life_bytes.specs.SectorBytes.{bytes_of}
 use Rattle.geometry.specs.declared.shape.Geometry.{Geometry}
@@ -8,7 +9,7 @@ use Rattle.inobt_leaf.specs.declared.chunk.ChunkRec.{ChunkRec}
 use Rattle.inobt_leaf.specs.Chunks.{IsLeaf}
 use Rattle.inobt_leaf.specs.Pages.{page_encoding, chunks_in}
 use Rattle.inobt_leaf.specs.PageLaws.{PagesAreRead}
-use Rattle.sound_image.specs.Places.{bytes_at, bytes_from, sector_in}
+use Rattle.sound_image.specs.Places.{bytes_at, bytes_from, part, sector_in}
 use Rattle.sound_image.specs.Reading.{header_of, page_sector, records_of}
 use Rattle.sound_image.specs.Rules.{IsPageRight, AreCountsRight, IsInData}
 use Rattle.std.specs.Prelude.{sum_by}
@@ -35,13 +36,19 @@ pub records_read : (l : PagesAreRead) (g : Geometry) (image : List Sector) (grou
 unfolding records_of
 records_read l g image group at bytes leaf shown wide is encoded = ap chunks_in (shown ∙ encoded) ∙ l.read leaf group at g.uuid is wide
 
+-- each sector of a page that is shown is the part of its bytes
+pub shown_parts : (g : Geometry) (image : List Sector) (group n : ℕ) (sectors : List Sector) → Shows image (page_sector g image group) sectors → length sectors ≡ n
+    → ((k : ℕ) → k < length sectors → bytes_at sectors k ≡ part k (bytes_of sectors)) → (k : ℕ) → k < n → bytes_at image (page_sector g image group + k) ≡ part k (bytes_of sectors)
+shown_parts g image group n sectors shows long parts k lt = shows.each k (omega (arith, lt, long)) ∙ parts k (omega (arith, lt, long))
+
 pub page_right : (l : PagesAreRead) (g : Geometry) (image : List Sector) (group : ℕ) (bytes : List ℕ) (leaf : List ChunkRec) → bytes_from image (page_sector g image group) 8 ≡ bytes
+    → ((k : ℕ) → k < 8 → bytes_at image (page_sector g image group + k) ≡ part k bytes)
     → length g.uuid ≡ 16 → IsLeaf leaf → bytes ≡ page_encoding leaf group (page_sector g image group) g.uuid → All (IsInData g.blocks) leaf → IsPageRight g image group × records_of g image group ≡ leaf
-page_right l g image group bytes leaf shown wide is encoded within =
+page_right l g image group bytes leaf shown parts wide is encoded within =
     let e : records_of g image group ≡ leaf = records_read l g image group (page_sector g image group) bytes leaf shown wide is encoded in (
       record {
         leaf = subst IsLeaf (sym e) is;
-        encoded = shown ∙ encoded ∙ ap (λ (cs : List ChunkRec). page_encoding cs group (page_sector g image group) g.uuid) (sym e);
+        encoded = λ k lt. parts k lt ∙ ap (part k) encoded ∙ ap (λ (cs : List ChunkRec). part k (page_encoding cs group (page_sector g image group) g.uuid)) (sym e);
         in_data = subst (All (IsInData g.blocks)) (sym e) within;
       },
       e,
@@ -52,10 +59,15 @@ unfolding page_sector sector_in
 page_place g image group root e = ap (λ (r : ℕ). group * (g.blocks * 8) + 8 * r) e
 
 -- a right page is the page of the group's records
-pub page_encoded : (g : Geometry) (image : List Sector) (group at : ℕ) (bytes : List ℕ) → bytes_from image (page_sector g image group) 8 ≡ bytes → page_sector g image group ≡ at
-    → IsPageRight g image group → bytes ≡ page_encoding (records_of g image group) group at g.uuid
-page_encoded g image group at bytes shown place right =
-    sym shown ∙ right.encoded ∙ ap (λ (s : ℕ). page_encoding (records_of g image group) group s g.uuid) place
+pub page_encoded : (l : PagesAreRead)
+    → ((image : List Sector) (bytes : List ℕ) (s n : ℕ) → length bytes ≡ SECTOR_BYTES * n → ((k : ℕ) → k < n → bytes_at image (s + k) ≡ part k bytes) → bytes_from image s n ≡ bytes)
+    → (g : Geometry) (image : List Sector) (group at : ℕ) (bytes : List ℕ) → bytes_from image (page_sector g image group) 8 ≡ bytes → page_sector g image group ≡ at
+    → length g.uuid ≡ 16 → IsPageRight g image group → bytes ≡ page_encoding (records_of g image group) group at g.uuid
+page_encoded l whole g image group at bytes shown place wide right =
+    let page : ℕ → List ℕ = λ s. page_encoding (records_of g image group) group s g.uuid in
+    sym shown
+    ∙ whole image (page (page_sector g image group)) (page_sector g image group) 8 (l.long (records_of g image group) group (page_sector g image group) g.uuid right.leaf wide) right.encoded
+    ∙ ap page place
 
 -- a leaf that is read where its page is right has its chunks among the data blocks
 pub read_in_data : (l : PagesAreRead) (g : Geometry) (image : List Sector) (group at : ℕ) (bytes : List ℕ) (leaf : List ChunkRec) → bytes_from image (page_sector g image group) 8 ≡ bytes

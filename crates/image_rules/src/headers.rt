@@ -7,7 +7,7 @@ ghost use Rattle.sound_image.specs.Places.{bytes_at, sector_in, header_place};
 ghost use Rattle.sound_image.specs.Reading.{header_of};
 ghost use Rattle.sound_image.specs.Rules.{IsHeaderRight};
 
-use ag_header::{Agi, read_agi, encoded_headers_are_read};
+use ag_header::{Agi, encoded_headers_are_read, read_agi};
 use geometry::Geometry;
 use life_bytes::Sector;
 

@@ -14,9 +14,9 @@ ghost use Rattle.sound_image.specs.Places.{bytes_at, sector_in};
 ghost use Rattle.sound_image.specs.Reading.{core_of, blocks_in};
 ghost use Rattle.sound_image.specs.Rules.{IsCoreRight, IsForkRight};
 
-use extent_fork::{Extent, ForkFault, read_fork, encoded_forks_are_read};
+use extent_fork::{Extent, ForkFault, encoded_forks_are_read, read_fork};
 use geometry::{Geometry, number};
-use inode_core::{Core, read_core, encoded_cores_are_read};
+use inode_core::{Core, encoded_cores_are_read, read_core};
 use life_bytes::Sector;
 use std::alloc::{AllocFailed, Global};
 

@@ -10,9 +10,9 @@ mod headers;
 mod inodes;
 mod links;
 mod lists;
+mod one_group;
 mod pages;
 mod reading;
-mod one_group;
 mod tables;
 mod taken;
 
@@ -20,8 +20,8 @@ pub use all_groups::check_groups;
 pub use fault::CheckFault;
 pub use headers::right_header;
 pub use inodes::{right_blocks, right_core};
-pub use pages::{has_counts, right_leaf};
 pub use one_group::check_group;
+pub use pages::{has_counts, right_leaf};
 pub use tables::Tables;
 
 #[cfg(test)]

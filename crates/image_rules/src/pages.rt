@@ -12,9 +12,10 @@ ghost use Rattle.image_rules.specs.Shown.{Shows, Counts};
 
 use ag_header::Agi;
 use geometry::Geometry;
-use inobt_leaf::{ChunkRec, Leaf, PageFault, read_page, encoded_pages_are_read};
+use inobt_leaf::{ChunkRec, Leaf, PageFault, encoded_pages_are_read, read_page};
 use life_bytes::Sector;
 use life_limits::{BLOCK_SECTORS, CHUNK_INODES, FIRST_DATA_BLOCK};
+use sound_image::{chunks_are_read, sectors_hold_parts};
 use std::alloc::Global;
 
 /// Blocks of a chunk.
@@ -59,6 +60,8 @@ pub fn right_leaf(
     ensures in_data { IfOk result (λ leaf. All (IsInData g.now.blocks) leaf) }
 {
     encoded_pages_are_read();
+    chunks_are_read();
+    sectors_hold_parts(page);
     let at = u64::from(group * (g.blocks * BLOCK_SECTORS) + BLOCK_SECTORS * root);
     let leaf = read_page(alloc, page, root, group, at, &g.uuid)?;
     if are_in_data(g.blocks, leaf.chunks()) {

@@ -1,16 +1,15 @@
 -- A sound image is the encoding of its table: each of its sectors is what is encoded there.
-use Rattle.std.proofs.Common.{◌≡◌, ◌≢◌, ◌<◌, ◌≤◌, ◌+◌, ◌-◌, ◌*◌, ◌/◌, ◌%◌, ℕ, zero, suc, Bool, true, false, cond, eqb, leb, ltb, List, [], ◌++◌, Option, None, Some, length, map, get_or, take, drop, inl, inr, refl, ap, sym, subst, ◌∙◌, arith}
+use Rattle.std.proofs.Common.{◌≡◌, ◌≢◌, ◌<◌, ◌≤◌, ◌+◌, ◌-◌, ◌*◌, ◌/◌, ◌%◌, ℕ, Bool, true, false, cond, eqb, leb, ltb, List, [], Option, None, Some, length, map, get_or, inl, inr, refl, ap, sym, subst, ◌∙◌, arith}
 use Rattle.std.specs.Prelude.{is_some, ◌&&◌, unwrap_or, sum_by}
 use Rattle.std.specs.Option.{option_map}
-use Rattle.std.specs.List.{range_with_len, flat_map}
+use Rattle.std.specs.List.{range_with_len}
 use Rattle.std.proofs.lemmas.Bool.{cases_lt, cases_eq, and_parts, and_from, eqb-true, eq-eqb, leb-true, ltb-true, true≢false}
-use Rattle.std.proofs.lemmas.List.{same_lists, get_or_default, take_at, drop_at, drop-drop}
+use Rattle.std.proofs.lemmas.List.{same_lists, get_or_default}
 use Rattle.std.proofs.lemmas.List.FromFn.{length-map-range_with_len, get_or-map-range_with_len}
 use Rattle.std.proofs.lemmas.Nat.{div_below, div-add-mod', mod_below}
 use Rattle.life_bytes.specs.declared.sector.Sector.{Sector}
-use Rattle.life_bytes.specs.Sectors.{zero_sector}
 use Rattle.geometry.specs.declared.shape.Geometry.{Geometry}
-use Rattle.geometry.specs.Places.{group_sectors}
+use Rattle.geometry.specs.Places.{group_sectors, number_in}
 use Rattle.geometry.specs.Shape.{IsGeometry}
 use Rattle.inode_core.specs.declared.shape.Core.{Core}
 use Rattle.inode_core.specs.Cores.{fork_of}
@@ -30,12 +29,13 @@ use Rattle.life_table.specs.Table.{Group, group_at, inode_in}
 use Rattle.life_table.specs.Space.{times}
 use Rattle.life_table.specs.WellFormed.{IsGroup}
 use Rattle.life_limits.specs.declared.TheConstants.{NO_INODE}
-use Rattle.sound_image.specs.Places.{bytes_at, bytes_from, part, sector_in, number_in}
+use Rattle.sound_image.specs.Places.{bytes_at, part, sector_in}
 use Rattle.sound_image.specs.Reading.{header_of, page_sector, records_of, inode_bytes, core_of, blocks_in, group_read, row_at, rows_of}
 use Rattle.sound_image.specs.Rules.{free_set, IsListed, pointer}
 use Rattle.sound_image.specs.Damage.{header, tree, core, fork, bitmap as bitmap_rule, pointers, lists, AreGroupsSound}
-use Rattle.sound_image.specs.Encoding.{Layout, Layouts, layout_of, page_of, bucket_list, head_of, next_in, is_unlinked, AreLayouts, header_for, core_for, fork_for, inode_sector, page_place, page_bytes, metadata, encoded, CanEncode}
+use Rattle.sound_image.specs.Encoding.{Layout, Layouts, layout_of, page_of, bucket_list, head_of, next_in, is_unlinked, AreLayouts, header_for, core_for, inode_sector, page_place, page_bytes, metadata, encoded, CanEncode}
 use Rattle.sound_image.proofs.Buckets.{head_at, next_none}
+use Rattle.sound_image.proofs.Forks.{fork_for, fork_of_none, sector_parts}
 use Rattle.sound_image.proofs.Found.{found, inode_found, row_found}
 use Rattle.sound_image.proofs.Groups.{all_in_data, in_range}
 use Rattle.sound_image.proofs.Headers.{sector_more}
@@ -44,24 +44,27 @@ use Rattle.sound_image.proofs.Leaves.{free_sum}
 use Rattle.sound_image.proofs.Metadata.{is_bitmap, is_page, chosen, by_tests}
 use Rattle.sound_image.proofs.Ready.{Lower, ready, unlinked, is_linked}
 use Rattle.sound_image.proofs.Rows.{row_made}
-use Rattle.sound_image.proofs.Sectors.{sector_of, length-encoded, behind_groups, in_image, at_place}
+use Rattle.sound_image.proofs.Sectors.{same_image, length-encoded, behind_groups, at_place}
 use Rattle.sound_image.proofs.Encoded.{records_again}
 use Rattle.sound_image.proofs.Tables.{table_right, group_right, good_group, length_group}
 
 -- ---- the layouts
 
 abbrev HasLayout : (g : Geometry) (image : List Sector) → ℕ → Layout → Type 0
-HasLayout g image group layout = (layout.page ≡ (header_of g image group).root) × ((bucket : ℕ) → bucket < 64 → IsList g image group bucket (get_or layout.buckets bucket []))
+HasLayout g image group layout =
+    (layout.page ≡ (header_of g image group).root) × ((bucket : ℕ) → bucket < 64 → IsList g image group bucket (get_or layout.buckets bucket [])) × (length layout.buckets ≡ 64)
 
 one_layout : (g : Geometry) (image : List Sector) (group : ℕ) → AreGroupsSound g image → group < g.groups → (layout : Layout) × HasLayout g image group layout
 one_layout g image group sound lt =
     let ends = sound pointers group lt in
     let f =
     fill {X = List ℕ} 64 (λ bucket members. IsList g image group bucket members) (λ bucket low. (members_of g image group bucket (ends bucket low), is_list g image group bucket (ends bucket low))) in
-    (record { page = (header_of g image group).root; buckets = f.items }, (refl, λ bucket low. f.each bucket [] low))
+    (record { page = (header_of g image group).root; buckets = f.items }, (refl, λ bucket low. f.each bucket [] low, f.long))
 
 -- what the layouts of an image are
 pub record AreRead (g : Geometry) (image : List Sector) (layouts : Layouts) : Type 0 where
+  pub long : length layouts ≡ g.groups
+  pub lists : (group : ℕ) → group < g.groups → length (layout_of layouts group).buckets ≡ 64
   pub page : (group : ℕ) → group < g.groups → page_of layouts group ≡ (header_of g image group).root
   pub list : (group bucket : ℕ) → group < g.groups → bucket < 64 → IsList g image group bucket (bucket_list layouts group bucket)
 
@@ -69,8 +72,15 @@ pub layouts_read : (g : Geometry) (image : List Sector) → AreGroupsSound g ima
 unfolding layout_of page_of bucket_list
 layouts_read g image sound =
     let f = fill {X = Layout} g.groups (HasLayout g image) (λ group lt. one_layout g image group sound lt) in
-    let none : Layout = record { page = 2; buckets = [] } in
-    (f.items, record { page = λ group lt. (f.each group none lt).0; list = λ group bucket lt low. (f.each group none lt).1 bucket low })
+    let none : Layout = record { page = 2; buckets = [] } in (
+      f.items,
+      record {
+        long = f.long;
+        lists = λ group lt. (f.each group none lt).2;
+        page = λ group lt. (f.each group none lt).0;
+        list = λ group bucket lt low. (f.each group none lt).1 bucket low;
+      },
+    )
 
 -- ---- the table's groups
 
@@ -125,6 +135,8 @@ bucket_right l g image layouts group bucket agino is sound are lt low =
 
 pub are_layouts : (l : Lower) (g : Geometry) (image : List Sector) (layouts : Layouts) → IsGeometry g → AreGroupsSound g image → AreRead g image layouts → AreLayouts (rows_of g image) layouts
 are_layouts l g image layouts is sound are = record {
+  groups = are.long ∙ sym (length_groups g image);
+  lists = λ group low. are.lists group (omega (arith, low, length_groups g image));
   pages = λ group low.
       let lt : group < g.groups = omega (arith, low, length_groups g image) in
       let root = (sound header group lt).encoded.allowed.root in
@@ -251,7 +263,7 @@ record SameInode (g : Geometry) (image : List Sector) (layouts : Layouts) (group
 
 same_inode : (l : Lower) (g : Geometry) (image : List Sector) (layouts : Layouts) (group agino : ℕ) (x : Inode) → IsGeometry g → AreGroupsSound g image → AreRead g image layouts → group < g.groups
     → inode_in (group_read g image group) agino ≡ Some x → SameInode g image layouts group agino x
-unfolding core_for fork_for
+unfolding core_for
 same_inode l g image layouts group agino x is sound are lt e =
     let r = found g image group agino x e in
     let c = sound core group lt agino x (inode_found g image group agino x e) in
@@ -266,7 +278,7 @@ same_inode l g image layouts group agino x is sound are lt e =
           record {
             core_is = same_core held (core_for x.generation None next) dead free.links free.size free.blocks free.extents (sym r.generation) free.next
                 ∙ ap (λ (o : Option Row). core_for x.generation o next) (sym none);
-            fork_is = c.encoded.fork dead ∙ ap (fork_for group) (sym none);
+            fork_is = c.encoded.fork dead ∙ sym (fork_of_none group) ∙ ap (fork_for group) (sym none);
           }
       | inr live ↦
           let row : Row = row_made held.links (blocks_in g image group agino) in
@@ -294,11 +306,11 @@ same_inode l g image layouts group agino x is sound are lt e =
 
 inode_again : (l : Lower) (g : Geometry) (image : List Sector) (layouts : Layouts) (group agino : ℕ) (x : Inode) → IsGeometry g → AreGroupsSound g image → AreRead g image layouts → group < g.groups
     → inode_in (group_read g image group) agino ≡ Some x → inode_sector g layouts group agino x ≡ bytes_at image (sector_in g group agino)
-unfolding inode_sector
 inode_again l g image layouts group agino x is sound are lt e =
     let s = same_inode l g image layouts group agino x is sound are lt e in
     let c = sound core group lt agino x (inode_found g image group agino x e) in
-    ap (λ (core : Core). core_encoding core (number_in group agino) g.uuid (fork_for group x.row)) (sym s.core_is)
+    sector_parts g layouts group agino x
+    ∙ ap (λ (core : Core). core_encoding core (number_in group agino) g.uuid (fork_for group x.row)) (sym s.core_is)
     ∙ ap (core_encoding (core_of g image group agino) (number_in group agino) g.uuid) (sym s.fork_is)
     ∙ sym c.encoded.sector
 
@@ -371,21 +383,11 @@ sector_again l g image layouts s is sound are size lt =
           ∙ ap (bytes_at image) at
     ]
 
-same_bytes : (a b : List Sector) (s : ℕ) → bytes_at a s ≡ bytes_at b s → get_or a s zero_sector ≡ get_or b s zero_sector
-unfolding bytes_at
-same_bytes a b s e = ap sector_of e
-
 pub image_again : (l : Lower) (g : Geometry) (image : List Sector) (layouts : Layouts) → IsGeometry g → AreGroupsSound g image → AreRead g image layouts → g.groups * group_sectors g ≤ length image
     → encoded g (rows_of g image) layouts image ≡ image
 image_again l g image layouts is sound are size =
-    let new = encoded g (rows_of g image) layouts image in
-    let many = length-encoded g (rows_of g image) layouts image in
-    same_lists new image many
-    (λ s d lt.
-    let within : s < length image = omega (arith, lt, many) in
-    get_or_default new s d zero_sector lt
-    ∙ same_bytes new image s (sector_again l g image layouts s is sound are size within)
-    ∙ get_or_default image s zero_sector d within)
+    same_image (encoded g (rows_of g image) layouts image) image (length-encoded g (rows_of g image) layouts image)
+    (λ s within. sector_again l g image layouts s is sound are size within)
 
 pub encoded_again : (l : Lower) (g : Geometry) (image : List Sector) → IsGeometry g → AreGroupsSound g image → g.groups * group_sectors g ≤ length image
     → (layouts : Layouts) × CanEncode g (rows_of g image) layouts image × (encoded g (rows_of g image) layouts image ≡ image)

@@ -10,10 +10,9 @@ use Rattle.inobt_leaf.specs.Chunks.{IsLeaf}
 use Rattle.life_table.specs.declared.types.Row.{Row}
 use Rattle.life_table.specs.declared.table.Inode.{Inode}
 use Rattle.life_table.specs.declared.table.Chunk.{Chunk}
-use Rattle.life_table.specs.Table.{Group}
 use Rattle.sound_image.specs.Counts.{inodes_in}
 use Rattle.sound_image.specs.Reading.{chunk_read, group_read, records_of}
-use Rattle.sound_image.specs.Encoding.{free_count, chunk_record}
+use Rattle.sound_image.specs.Encoding.{free_count}
 use Rattle.sound_image.proofs.Leaves.{free_sum}
 use Rattle.sound_image.proofs.Ready.{Lower}
 use Rattle.sound_image.proofs.Encoded.{length_inodes, records_again}

@@ -24,9 +24,11 @@ use Rattle.life_table.specs.declared.table.Table.{Table}
 use Rattle.life_table.specs.Table.{Group, group_at, inode_in}
 use Rattle.life_table.specs.Space.{times, row_blocks}
 use Rattle.life_table.specs.WellFormed.{IsRow, IsGroup}
-use Rattle.sound_image.specs.Places.{bytes_at, sector_in, number_in}
+use Rattle.geometry.specs.Places.{number_in}
+use Rattle.sound_image.specs.Places.{bytes_at, sector_in}
 use Rattle.sound_image.specs.Reading.{core_of, blocks_in}
-use Rattle.sound_image.specs.Encoding.{Layouts, bucket_list, head_of, next_in, core_for, fork_for, inode_sector, encoded}
+use Rattle.sound_image.specs.Encoding.{Layouts, bucket_list, head_of, next_in, core_for, inode_sector, encoded}
+use Rattle.sound_image.proofs.Forks.{fork_for, fork_of_none, sector_parts}
 use Rattle.sound_image.proofs.Groups.{times_here, times_later, in_range, is_inode, row_blocks_used}
 use Rattle.sound_image.proofs.Metadata.{at_inode}
 use Rattle.sound_image.proofs.Ready.{Lower, IsReady, member_range}
@@ -105,15 +107,15 @@ row_stored l g t layouts image group agino x row r found live =
 
 stands : (l : Lower) (group generation next : ℕ) (uuid : List ℕ) (o : Option Row) → length uuid ≡ 16 → 1 ≤ generation → generation ≤ 4294967295 → next < 2 ^ 32
     → ((row : Row) → o ≡ Some row → StoredRow l row generation) → CanStand (core_for generation o next) uuid (fork_for group o)
-unfolding core_for fork_for
+unfolding core_for
 stands l group generation next uuid None wide low high small stored = record {
   allowed = record {
     live = λ e. absurd (true≢false (sym e));
     free = λ e. record { links = refl; size = refl; blocks = refl; extents = refl; generation = (low, high); next = refl };
   };
   wide = wide;
-  long = length-zeros 336;
-  free = λ e. refl;
+  long = ap length (fork_of_none group) ∙ length-zeros 336;
+  free = λ e. fork_of_none group;
 }
 stands l group generation next uuid (Some row) wide low high small stored =
     let s = stored row refl in
@@ -144,11 +146,11 @@ can_stand l g t layouts image group agino x r found =
 pub sector_is : (l : Lower) (g : Geometry) (t : Table) (layouts : Layouts) (image : List Sector) (group agino : ℕ) (x : Inode) → IsReady g t layouts image group
     → inode_in (group_at t group) agino ≡ Some x
     → bytes_at (encoded g t layouts image) (sector_in g group agino) ≡ core_encoding (core_for x.generation x.row (next_for layouts group agino)) (number_in group agino) g.uuid (fork_for group x.row)
-unfolding inode_sector
 sector_is l g t layouts image group agino x r found =
     let range = in_range g.blocks (group_at t group) agino x r.data_of found in
     at_metadata g t layouts image group agino (inode_sector g layouts group agino x) r.size r.below (omega arith)
     (at_inode g layouts group (group_at t group) agino r.page_low (omega (arith, r.page_high)) ∙ ap (option_map (inode_sector g layouts group agino)) found)
+    ∙ sector_parts g layouts group agino x
 
 -- what the sector of an inode encodes
 pub record Stored (g : Geometry) (new : List Sector) (layouts : Layouts) (group agino : ℕ) (x : Inode) : Type 0 where
@@ -188,7 +190,6 @@ core_says core generation next o row e live =
     (ap (λ (c : Core). c.extents) f, ap (λ (c : Core). c.links) f, ap (λ (c : Core). c.blocks) f, ap (λ (c : Core). c.next) f)
 
 fork_says : (group : ℕ) (o : Option Row) (row : Row) → o ≡ Some row → fork_for group o ≡ fork group (runs row.blocks)
-unfolding fork_for
 fork_says group o row live = ap (fork_for group) live
 
 pub stored_runs : (l : Lower) (g : Geometry) (t : Table) (layouts : Layouts) (image : List Sector) (group agino : ℕ) (x : Inode) (row : Row) → IsReady g t layouts image group

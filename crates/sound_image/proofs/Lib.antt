@@ -1,9 +1,11 @@
 pub mod Damages
+pub mod Held
 pub mod Sectors
 pub mod Groups
 pub mod Leaves
 pub mod Metadata
 pub mod Ready
+pub mod Forks
 pub mod Headers
 pub mod Inodes
 pub mod Rows
@@ -16,6 +18,7 @@ pub mod NoOpens
 pub mod Encoded
 pub mod Layouts
 pub mod Again
+pub mod Alone
 pub mod Opens
 pub mod Standing
 pub mod ByChunks

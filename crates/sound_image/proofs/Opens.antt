@@ -22,7 +22,7 @@ use Rattle.life_table.specs.Table.{Group, group_at, inode_in}
 use Rattle.life_table.specs.History.{closed, closed_inode, closed_row}
 use Rattle.sound_image.specs.Places.{bytes_at, part, sector_in}
 use Rattle.sound_image.specs.Rules.{free_set}
-use Rattle.sound_image.specs.Encoding.{Layouts, mask_of, free_count, chunk_record, header_for, core_for, fork_for, inode_sector, page_place, page_bytes, metadata, encoded, encoded_bytes}
+use Rattle.sound_image.specs.Encoding.{Layouts, mask_of, free_count, chunk_record, header_for, core_for, inode_sector, page_place, page_bytes, metadata, encoded, encoded_bytes}
 use Rattle.sound_image.proofs.Leaves.{unused, mask_ones}
 use Rattle.sound_image.proofs.Metadata.{is_bitmap, is_page, chosen, by_tests}
 use Rattle.sound_image.proofs.Right.{free_set_closed}
@@ -76,7 +76,7 @@ unfolding page_bytes
 page_closed g layouts group chunks = ap (λ (rs : List ChunkRec). page_encoding rs group (sector_in g group (page_place layouts group)) g.uuid) (records_closed chunks)
 
 core_closed : (g : Geometry) (layouts : Layouts) (group agino : ℕ) (x : Inode) → inode_sector g layouts group agino (closed_inode x) ≡ inode_sector g layouts group agino x
-unfolding inode_sector core_for fork_for
+unfolding inode_sector core_for
 core_closed g layouts group agino x = by x.row
   where
     by : (o : Option Row) → inode_sector g layouts group agino (record { generation = x.generation; row = closed_row o }) ≡ inode_sector g layouts group agino (record { generation = x.generation; row = o })

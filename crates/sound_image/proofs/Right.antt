@@ -18,7 +18,8 @@ use Rattle.life_table.specs.declared.table.Table.{Table}
 use Rattle.life_table.specs.Table.{Group, group_at}
 use Rattle.life_table.specs.Space.{times, chunk_blocks, row_blocks, inode_blocks, used, is_free_block}
 use Rattle.life_table.specs.History.{closed_inode, closed_row}
-use Rattle.sound_image.specs.Places.{bytes_at, part, sector_in, number_in}
+use Rattle.geometry.specs.Places.{number_in}
+use Rattle.sound_image.specs.Places.{bytes_at, part, sector_in}
 use Rattle.sound_image.specs.Reading.{inode_at, row_at}
 use Rattle.sound_image.specs.Rules.{IsCoreRight, IsForkRight, AreBlocksAlone, IsIn, free_set, IsBitmapRight}
 use Rattle.sound_image.specs.Encoding.{Layouts, core_for, encoded}

@@ -1,9 +1,9 @@
 -- The sectors of an image that encodes a table.
-use Rattle.std.proofs.Common.{◌≡◌, ◌<◌, ◌≤◌, ◌+◌, ◌*◌, ◌%◌, ℕ, zero, suc, List, ◌++◌, Option, None, Some, length, take, drop, ltb, ap, sym, ◌∙◌, arith}
+use Rattle.std.proofs.Common.{◌≡◌, ◌<◌, ◌≤◌, ◌+◌, ◌*◌, ◌%◌, ℕ, zero, suc, List, ◌++◌, Option, None, Some, length, get_or, take, drop, ltb, ap, sym, ◌∙◌, arith}
 use Rattle.std.specs.Prelude.{unwrap_or}
 use Rattle.std.specs.List.{flat_map, range_with_len}
 use Rattle.std.proofs.lemmas.Bool.{lt-ltb, le-ltb, cond-true, cond-false}
-use Rattle.std.proofs.lemmas.List.{drop_all, drop-drop, length-drop, take-append-drop}
+use Rattle.std.proofs.lemmas.List.{same_lists, get_or_default, drop_all, drop-drop, length-drop, take-append-drop}
 use Rattle.std.proofs.lemmas.List.FromFn.{length-map-range_with_len, get_or-map-range_with_len}
 use Rattle.std.proofs.lemmas.Nat.{div-mul-add, mod-mul-add}
 use Rattle.life_bytes.specs.declared.sector.Sector.{Sector}
@@ -79,3 +79,15 @@ parts_whole f bytes s (suc n) long each =
 pub bytes_from_parts : (image : List Sector) (bytes : List ℕ) (s n : ℕ) → length bytes ≡ 512 * n → ((k : ℕ) → k < n → bytes_at image (s + k) ≡ part k bytes) → bytes_from image s n ≡ bytes
 unfolding bytes_from
 bytes_from_parts image bytes s n long each = parts_whole (bytes_at image) bytes s n long each
+
+-- images with the same bytes in each sector are one
+same_bytes : (a b : List Sector) (s : ℕ) → bytes_at a s ≡ bytes_at b s → get_or a s zero_sector ≡ get_or b s zero_sector
+unfolding bytes_at
+same_bytes a b s e = ap sector_of e
+
+pub same_image : (a b : List Sector) → length a ≡ length b → ((s : ℕ) → s < length b → bytes_at a s ≡ bytes_at b s) → a ≡ b
+same_image a b many each =
+    same_lists a b many
+    (λ s d lt.
+    let within : s < length b = omega (arith, lt, many) in
+    get_or_default a s d zero_sector lt ∙ same_bytes a b s (each s within) ∙ get_or_default b s zero_sector d within)

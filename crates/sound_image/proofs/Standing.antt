@@ -1,5 +1,5 @@
 -- What stands at each place of an image that encodes a table.
-use Rattle.std.proofs.Common.{◌≡◌, ◌<◌, ◌+◌, ◌%◌, ℕ, List, Some, length, arith}
+use Rattle.std.proofs.Common.{◌≡◌, ◌<◌, ◌+◌, ◌%◌, ℕ, List, Some, length, sym, ◌∙◌, arith}
 use Rattle.life_bytes.specs.declared.sector.Sector.{Sector}
 use Rattle.geometry.specs.declared.shape.Geometry.{Geometry}
 use Rattle.extent_fork.specs.Forks.{HasFork}
@@ -10,9 +10,11 @@ use Rattle.life_table.specs.declared.types.Row.{Row}
 use Rattle.life_table.specs.declared.table.Inode.{Inode}
 use Rattle.life_table.specs.declared.table.Table.{Table}
 use Rattle.life_table.specs.Table.{group_at, inode_in}
-use Rattle.sound_image.specs.Places.{bytes_at, bytes_from, number_in, part, sector_in}
+use Rattle.geometry.specs.Places.{number_in}
+use Rattle.sound_image.specs.Places.{bytes_at, bytes_from, part, sector_in}
 use Rattle.sound_image.specs.Rules.{free_set}
 use Rattle.sound_image.specs.Encoding.{Layouts, core_for, inode_sector, bucket_list, next_in, page_bytes, page_place, encoded}
+use Rattle.sound_image.proofs.Forks.{sector_parts}
 use Rattle.sound_image.proofs.Headers.{page_is}
 use Rattle.sound_image.proofs.Inodes.{sector_is, stored, stored_runs}
 use Rattle.sound_image.proofs.Metadata.{at_bitmap, at_page}
@@ -40,8 +42,7 @@ bitmap_stands g t layouts image group k r lt =
 
 pub inode_stands : (l : Lower) (g : Geometry) (t : Table) (layouts : Layouts) (image : List Sector) (group agino : ℕ) (x : Inode) → IsReady g t layouts image group
     → inode_in (group_at t group) agino ≡ Some x → bytes_at (encoded g t layouts image) (sector_in g group agino) ≡ inode_sector g layouts group agino x
-unfolding inode_sector
-inode_stands l g t layouts image group agino x r found = sector_is l g t layouts image group agino x r found
+inode_stands l g t layouts image group agino x r found = sector_is l g t layouts image group agino x r found ∙ sym (sector_parts g layouts group agino x)
 
 pub core_stands : (l : Lower) (g : Geometry) (t : Table) (layouts : Layouts) (image : List Sector) (group agino : ℕ) (x : Inode) → IsReady g t layouts image group
     → inode_in (group_at t group) agino ≡ Some x

@@ -1,5 +1,5 @@
 -- How many chunks, inodes in use, and inodes in use without links a table has.
-use Rattle.std.specs.Prelude.{ℕ, List, is_some, length, count_by, sum_by}
+use Rattle.std.specs.Prelude.{ℕ, is_some, length, count_by, sum_by}
 use Rattle.life_table.specs.declared.table.Inode.{Inode}
 use Rattle.life_table.specs.declared.table.Chunk.{Chunk}
 use Rattle.life_table.specs.declared.table.Table.{Table}

@@ -5,12 +5,10 @@ use Rattle.std.specs.Option.{option_map}
 use Rattle.life_limits.specs.declared.TheConstants.{BLOCK_BYTES, BLOCK_SECTORS, BUCKETS, CHUNK_INODES, FIRST_PAGE_BLOCK, LAST_PAGE_BLOCK, NO_INODE}
 use Rattle.life_bytes.specs.declared.sector.Sector.{Sector}
 use Rattle.geometry.specs.declared.shape.Geometry.{Geometry}
-use Rattle.geometry.specs.Places.{group_sectors}
+use Rattle.geometry.specs.Places.{group_sectors, number_in}
 use Rattle.geometry.specs.Shape.{IsGeometry}
 use Rattle.inode_core.specs.declared.shape.Core.{Core}
-use Rattle.inode_core.specs.Cores.{no_fork}
-use Rattle.inode_core.specs.Cores.{core_encoding}
-use Rattle.extent_fork.specs.Forks.{fork}
+use Rattle.extent_fork.specs.Inodes.{inode_encoding}
 use Rattle.extent_fork.specs.Runs.{runs}
 use Rattle.ag_header.specs.declared.agi.Agi.{Agi}
 use Rattle.ag_header.specs.Headers.{header_encoding}
@@ -22,9 +20,9 @@ use Rattle.life_table.specs.declared.table.Inode.{Inode}
 use Rattle.life_table.specs.declared.table.Chunk.{Chunk}
 use Rattle.life_table.specs.declared.table.Table.{Table}
 use Rattle.life_table.specs.Table.{Group, inode_in, group_at}
-use Rattle.life_table.specs.Space.{times}
+use Rattle.life_table.specs.Space.{times, row_blocks}
 use Rattle.life_table.specs.WellFormed.{IsTable}
-use Rattle.sound_image.specs.Places.{bytes_at, part, sector_in, number_in, header_place, bitmap_place, bitmap_sectors}
+use Rattle.sound_image.specs.Places.{bytes_at, part, sector_in, header_place, bitmap_place, bitmap_sectors}
 use Rattle.sound_image.specs.Rules.{free_set}
 
 -- What the sectors of a group tell beside its inodes: the block of its page, and its 64 unlinked buckets, each a list of numbers of the group with its
@@ -47,6 +45,11 @@ page_of layouts group = (layout_of layouts group).page
 unfoldable pub bucket_list : Layouts → ℕ → ℕ → List ℕ
 bucket_list layouts group bucket = slice_index_or (layout_of layouts group).buckets bucket []
 
+-- layouts that give each group of an image the same page and the same lists
+pub record HasSameLayouts (g : Geometry) (layouts others : Layouts) : Type 0 where
+  pub page : (group : ℕ) → group < g.groups → page_of others group ≡ page_of layouts group
+  pub lists : (group bucket : ℕ) → group < g.groups → bucket < BUCKETS → bucket_list others group bucket ≡ bucket_list layouts group bucket
+
 -- the head of a list, and what follows a member of it: the end where nothing does, and for one that is no member
 unfoldable pub head_of : List ℕ → ℕ
 head_of [] = NO_INODE
@@ -65,9 +68,11 @@ abbrev pub is_unlinked : Option Inode → Bool
 is_unlinked None = false
 is_unlinked (Some inode) = is_unlinked_row inode.row
 
--- Layouts of a table: the page of each group is in a block of pages. A number stands once in the list of its bucket, which is the number modulo 64, where
--- its inode is in use and has no links, and in no other list.
+-- Layouts of a table: each group has one, with a list for each bucket, and its page is in a block of pages. A number stands once in the list of its bucket,
+-- which is the number modulo 64, where its inode is in use and has no links, and in no other list.
 pub record AreLayouts (t : Table) (layouts : Layouts) : Type 0 where
+  pub groups : length layouts ≡ length t.groups
+  pub lists : (group : ℕ) → group < length t.groups → length (layout_of layouts group).buckets ≡ BUCKETS
   pub pages : (group : ℕ) → group < length t.groups → (FIRST_PAGE_BLOCK ≤ page_of layouts group) × (page_of layouts group ≤ LAST_PAGE_BLOCK)
   pub buckets : (group bucket agino : ℕ) → group < length t.groups → bucket < BUCKETS
       → times agino (bucket_list layouts group bucket) ≡ (if (agino % BUCKETS == bucket) && is_unlinked (inode_in (group_at t group) agino) then 1 else 0)
@@ -112,15 +117,10 @@ core_for generation (Some row) next =
       next = next;
     }
 
--- its fork
-unfoldable pub fork_for : ℕ → Option Row → List ℕ
-fork_for group None = no_fork
-fork_for group (Some row) = fork group (runs row.blocks)
-
 -- its sector
 unfoldable pub inode_sector : Geometry → Layouts → ℕ → ℕ → Inode → List ℕ
 inode_sector g layouts group agino inode =
-    core_encoding (core_for inode.generation inode.row (next_in (bucket_list layouts group (agino % BUCKETS)) agino)) (number_in group agino) g.uuid (fork_for group inode.row)
+    inode_encoding (core_for inode.generation inode.row (next_in (bucket_list layouts group (agino % BUCKETS)) agino)) (number_in group agino) g.uuid group (row_blocks inode.row)
 
 -- where the page of a group stands in it
 unfoldable pub page_place : Layouts → ℕ → ℕ

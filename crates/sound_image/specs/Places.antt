@@ -1,7 +1,7 @@
 -- Where things stand in an image, which is the list of its sectors from 0 on, and their bytes.
-use Rattle.std.specs.Prelude.{◌≡◌, ◌+◌, ◌*◌, ℕ, List, length, slice_index_or, take, drop, All}
+use Rattle.std.specs.Prelude.{◌≡◌, ◌<◌, ◌≤◌, ◌+◌, ◌*◌, ℕ, List, length, slice_index_or, take, drop}
 use Rattle.std.specs.List.{flat_map, range_with_len}
-use Rattle.life_limits.specs.declared.TheConstants.{BLOCK_SECTORS, GROUP_NUMBERS, SECTOR_BYTES}
+use Rattle.life_limits.specs.declared.TheConstants.{BLOCK_SECTORS, SECTOR_BYTES}
 use Rattle.life_bytes.specs.declared.sector.Sector.{Sector}
 use Rattle.life_bytes.specs.Sectors.{zero_sector}
 use Rattle.geometry.specs.declared.shape.Geometry.{Geometry}
@@ -23,9 +23,11 @@ part k bytes = take SECTOR_BYTES (drop (SECTOR_BYTES * k) bytes)
 unfoldable pub sector_in : Geometry → ℕ → ℕ → ℕ
 sector_in g group place = group * group_sectors g + place
 
--- the number in the image of an inode of a group, which stands at the place of its number in the group
-unfoldable pub number_in : ℕ → ℕ → ℕ
-number_in group agino = group * GROUP_NUMBERS + agino
+-- two images hold the groups, with the same sectors in them
+pub record HasSameGroups (g : Geometry) (image other : List Sector) : Type 0 where
+  pub size : g.groups * group_sectors g ≤ length image
+  pub other_size : g.groups * group_sectors g ≤ length other
+  pub each : (s : ℕ) → s < g.groups * group_sectors g → bytes_at image s ≡ bytes_at other s
 
 -- where the header and the bitmap of a group stand in it: sector 2, and the first sectors of block 1
 abbrev pub header_place : ℕ

@@ -5,6 +5,7 @@ use Rattle.std.specs.List.{range_with_len}
 use Rattle.life_limits.specs.declared.TheConstants.{BLOCK_SECTORS, BUCKETS, CHUNK_INODES, FIRST_DATA_BLOCK, NO_INODE}
 use Rattle.life_bytes.specs.declared.sector.Sector.{Sector}
 use Rattle.geometry.specs.declared.shape.Geometry.{Geometry}
+use Rattle.geometry.specs.Places.{number_in}
 use Rattle.inode_core.specs.Cores.{EncodesCore}
 use Rattle.extent_fork.specs.Forks.{HasFork}
 use Rattle.extent_fork.specs.Reading.{runs_in}
@@ -17,7 +18,7 @@ use Rattle.life_table.specs.declared.types.Row.{Row}
 use Rattle.life_table.specs.declared.table.Inode.{Inode}
 use Rattle.life_table.specs.Table.{Group}
 use Rattle.life_table.specs.Space.{times, chunk_blocks, chunk_length, row_blocks, is_free_block}
-use Rattle.sound_image.specs.Places.{bytes_at, part, sector_in, number_in, header_place, bitmap_place}
+use Rattle.sound_image.specs.Places.{bytes_at, part, sector_in, header_place, bitmap_place}
 use Rattle.sound_image.specs.Reading.{header_of, page_sector, records_of, inode_bytes, core_of, blocks_in, group_read, row_at}
 
 -- The header of a group has its form and checksum, and its group, length and uuid. Its root is a block of pages and its level

@@ -1,11 +1,11 @@
 // Laws of the definitions. Each is the contract of a function that does nothing but call the laws that its own rests on.
 
 ghost use Rattle.std.specs.Prelude.{◌≡◌, ◌≤◌, ◌<◌, ◌*◌, ◌/◌, ◌%◌, ◌+◌, ℕ, List, None, Some, length, map, slice_get, slice_range, sum_by};
-ghost use Rattle.life_limits.specs.declared.TheConstants.{BLOCK_SECTORS, BUCKETS, CHUNK_INODES};
+ghost use Rattle.life_limits.specs.declared.TheConstants.{BLOCK_SECTORS, BUCKETS, CHUNK_INODES, SECTOR_BYTES};
 ghost use Rattle.life_bytes.specs.declared.sector.Sector.{Sector};
 ghost use Rattle.life_bytes.specs.SectorBytes.{bytes_of};
 ghost use Rattle.geometry.specs.declared.shape.Geometry.{Geometry};
-ghost use Rattle.geometry.specs.Places.{group_sectors};
+ghost use Rattle.geometry.specs.Places.{group_sectors, number_in};
 ghost use Rattle.geometry.specs.Shape.{IsGeometry};
 ghost use Rattle.life_table.specs.declared.table.Table.{Table};
 ghost use Rattle.life_table.specs.Table.{group_at, inode_in};
@@ -20,12 +20,12 @@ ghost use Rattle.life_table.specs.declared.types.Row.{Row};
 ghost use Rattle.life_table.specs.declared.table.Inode.{Inode};
 ghost use Rattle.life_table.specs.History.{closed};
 ghost use Rattle.life_table.specs.WellFormed.{IsTable};
-ghost use Rattle.sound_image.specs.Places.{bitmap_place, bitmap_sectors, bytes_at, bytes_from, header_place, number_in, part, sector_in};
+ghost use Rattle.sound_image.specs.Places.{HasSameGroups, bitmap_place, bitmap_sectors, bytes_at, bytes_from, header_place, part, sector_in};
 ghost use Rattle.sound_image.specs.Reading.{group_read, inode_at, inode_read, IsOfChunk, records_of, rows_of};
 ghost use Rattle.sound_image.specs.Counts.{inodes_in};
 ghost use Rattle.sound_image.specs.Damage.{Rule, BreaksIn, FirstGroupsDamage, HoldsIn, AreGroupsSound, groups_rule_number};
 ghost use Rattle.sound_image.specs.Rules.{free_set};
-ghost use Rattle.sound_image.specs.Encoding.{Layouts, CanEncode, core_for, header_for, inode_sector, bucket_list, metadata, next_in, page_bytes, page_place, chunk_record, encoded};
+ghost use Rattle.sound_image.specs.Encoding.{Layouts, CanEncode, HasSameLayouts, core_for, header_for, inode_sector, bucket_list, metadata, next_in, page_bytes, page_place, chunk_record, encoded};
 
 use ag_header::encoded_headers_are_read;
 use extent_fork::encoded_forks_are_read;
@@ -127,10 +127,29 @@ pub fn sound_images_are_encoded()
     numbers_hold_their_bits();
 }
 
-/// A law, for what reads an image: sectors that follow each other are a slice of it; and where a group's records are those of a leaf, each number of
+/// A law: the sectors of the groups alone say whether the groups are sound, which table they have if they are, and what a table is encoded as there; and
+/// layouts count only by their pages and lists.
+pub fn groups_stand_alone()
+    ensures sound { (g : Geometry) (image other : List Sector) → IsGeometry g → HasSameGroups g image other → AreGroupsSound g image → AreGroupsSound g other }
+    ensures rows { (g : Geometry) (image other : List Sector) → IsGeometry g → HasSameGroups g image other → AreGroupsSound g image → rows_of g other ≡ rows_of g image }
+    ensures encoded { (g : Geometry) (t : Table) (layouts : Layouts) (image other : List Sector) → HasSameGroups g image other
+        → HasSameGroups g (encoded g t layouts image) (encoded g t layouts other) }
+    ensures layouts { (g : Geometry) (t : Table) (layouts others : Layouts) (image : List Sector) → HasSameLayouts g layouts others
+        → encoded g t others image ≡ encoded g t layouts image }
+{
+    encoded_cores_are_read();
+    encoded_headers_are_read();
+    encoded_pages_are_read();
+    encoded_forks_are_read();
+    numbers_hold_their_bits();
+}
+
+/// A law, for what reads an image: sectors that follow each other are a slice of it, and hold together what each holds its part of; and where a group's records are those of a leaf, each number of
 /// their chunks has its inode, and no other number has one.
 pub fn chunks_are_read()
     ensures slice { (image : List Sector) (s n : ℕ) → s + n ≤ length image → bytes_of (slice_range image s (s + n)) ≡ bytes_from image s n }
+    ensures parts { (image : List Sector) (bytes : List ℕ) (s n : ℕ) → length bytes ≡ SECTOR_BYTES * n
+        → ((k : ℕ) → k < n → bytes_at image (s + k) ≡ part k bytes) → bytes_from image s n ≡ bytes }
     ensures found { (g : Geometry) (image : List Sector) (group k i : ℕ) (chunk : ChunkRec) → IsLeaf (records_of g image group) → slice_get (records_of g image group) k ≡ Some chunk
         → i < CHUNK_INODES → inode_at g image group (chunk.start + i) ≡ Some (inode_read g image group chunk i) }
     ensures only { (g : Geometry) (image : List Sector) (group agino : ℕ) (inode : Inode) → inode_at g image group agino ≡ Some inode → IsOfChunk g image group agino inode }

@@ -2,9 +2,11 @@
 #![tactic(auto)]
 
 mod laws;
+mod parts;
 
 pub use laws::{
-    chunks_are_read, groups_are_counted, one_first_damage,
-    rules_hold_or_break, sound_images_are_encoded, sound_tables_are_well_formed,
-    encoded_images_are_sound, encoded_places, encoding_leaves_the_rest,
+    chunks_are_read, encoded_images_are_sound, encoded_places, encoding_leaves_the_rest,
+    groups_are_counted, groups_stand_alone, one_first_damage, rules_hold_or_break,
+    sound_images_are_encoded, sound_tables_are_well_formed,
 };
+pub use parts::sectors_hold_parts;

@@ -1,11 +1,12 @@
+use Rattle.encoded_changes.proofs.Listed.{first_put, out_taken}
 use Rattle.encoded_changes.proofs.Buckets.{put_touches, taken_touches, one_before, none_before}
 use Rattle.encoded_changes.proofs.laws.buckets_touch_pointers.Goals as goal
 
 pub returns-clause-put : goal.returns-clause-put
-returns-clause-put c = put_touches
+returns-clause-put c = λ g layouts others group chunks agino place puts. put_touches g layouts others group chunks agino place (first_put layouts others group agino puts)
 
 pub returns-clause-taken : goal.returns-clause-taken
-returns-clause-taken c = taken_touches
+returns-clause-taken c = λ g layouts others group chunks agino place out. taken_touches g layouts others group chunks agino place (out_taken layouts others group agino out)
 
 pub returns-clause-one_before : goal.returns-clause-one_before
 returns-clause-one_before c = one_before

@@ -1,13 +1,12 @@
 use Rattle.std.proofs.Common.{◌≡◌, ℕ, ap, sym, ◌∙◌, subst, rules}
 use Rattle.inode_core.specs.declared.shape.Core.{Core}
 use Rattle.inode_core.specs.Cores.{EncodesCore}
-use Rattle.sound_image.specs.Places.{number_in}
+use Rattle.geometry.specs.Places.{number_in}
 use Rattle.sound_image.specs.Reading.{core_of}
 use Rattle.image_rules.proofs.Living.{core_right, core_read, core_encoded}
 use Rattle.image_rules.proofs.inodes.right_core.Goals as goal
 
 pub returns-in_err-core-clause-wrong : goal.returns-in_err-core-clause-wrong
-unfolding number_in
 returns-in_err-core-clause-wrong c image inode shown live =
     let a = c.args in
     rw c.from_residual.ensures (λ right.
@@ -16,7 +15,6 @@ returns-in_err-core-clause-wrong c image inode shown live =
     cc)
 
 pub returns-then-core-live-clause-right : goal.returns-then-core-live-clause-right
-unfolding number_in
 returns-then-core-live-clause-right c image inode shown live =
     let a = c.args in
     let says : c.in_ok-core.core.live ≡ a.live = search rules in
@@ -24,7 +22,6 @@ returns-then-core-live-clause-right c image inode shown live =
     (subst (λ (n : ℕ). EncodesCore a.sector.now.bytes n a.g.now.uuid c.in_ok-core.core) c.number.ensures c.in_ok-core.ensures.found) (says ∙ sym live)
 
 pub returns-else-core-live-clause-wrong : goal.returns-else-core-live-clause-wrong
-unfolding number_in
 returns-else-core-live-clause-wrong c image inode shown live right =
     let a = c.args in
     let same = core_read c.encoded_cores_are_read.ensures a.g.now image a.group a.agino a.sector.now.bytes c.in_ok-core.core shown c.has_its_bytes.ensures c.requires.shape.uuid
