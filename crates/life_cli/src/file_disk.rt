@@ -265,11 +265,14 @@ mod tests {
         let mut images = FileImages::new(alloc, &rt);
         assert!(rt; images.attach(path).is_err());
         let mut made = images.create(path, 3)?;
-        assert!(rt; images.create(path, 3).is_err());
-        assert_eq!(rt; (images.faults(), made.sectors()), (2, 3));
         assert_eq!(rt; second_sector(&mut made), Some([0; 512]));
         assert!(rt; fill_from_second(&mut made, 7));
-        assert_eq!(rt; fs::metadata(&rt, path)?.len(), 1536);
+        assert!(rt; images.create(path, 3).is_err());
+        assert_eq!(rt; (images.faults(), made.sectors()), (2, 3));
+        let held = fs::read(&rt, path)?;
+        assert_eq!(rt; held.len(), 1536);
+        assert_eq!(rt; held.iter().position(|byte| *byte != 0), Some(512));
+        assert!(rt; held.iter().skip(512).all(|byte| *byte == 7));
         let mut attached = images.attach(path)?;
         assert_eq!(rt; attached.sectors(), 3);
         assert_eq!(rt; second_sector(&mut attached), Some([7; 512]));
@@ -280,6 +283,17 @@ mod tests {
         assert_eq!(rt; second_sector(&mut attached), None);
         assert_eq!(rt; (attached.sectors(), attached.faults()), (3, 1));
         fs::remove_file(&rt, path)?;
+        Ok(())
+    }
+
+    // A file that can't be synced says so. One whose flush is left out would not.
+    #[test]
+    fn a_flush_asks_for_the_file_to_be_synced(rt: HostRuntime) -> Result<(), Fail> {
+        let mut images = FileImages::new(rt.alloc(), &rt);
+        let mut disk = images.attach("/dev/null")?;
+        assert_eq!(rt; (disk.sectors(), disk.faults()), (0, 0));
+        assert!(rt; disk.flush().is_err());
+        assert_eq!(rt; (disk.faults(), images.faults()), (1, 0));
         Ok(())
     }
 }

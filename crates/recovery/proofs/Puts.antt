@@ -3,7 +3,7 @@ use Rattle.std.proofs.Common.{◌≡◌, ◌⊎◌, ℕ, zero, suc, ◌+◌, ◌
 use Rattle.std.specs.List.{All}
 use Rattle.std.proofs.lemmas.List.Elements.{All-head, All-tail}
 use Rattle.life_bytes.specs.declared.sector.Sector.{Sector}
-use Rattle.disk_model.specs.Disk.{Cell, Elapses, HasOneImage, IsImage, as_read, written}
+use Rattle.disk_model.specs.Disk.{Cell, HasOneImage, IsImage, as_read, written}
 use Rattle.disk_model.specs.DiskLaws.{IsTorn, IsTorn-from_image, IsImage-one, length-torn}
 use Rattle.log_record.specs.declared.image.Image.{Image}
 use Rattle.log_image.specs.Overlay.{newest, overlaid}
@@ -102,19 +102,3 @@ overlaid-nil sectors = refl
 pub overlaid-cons : (sectors : List Sector) (image : Image) (images : List Image) → overlaid sectors (image ∷ images) ≡ overlaid (set sectors image.home image.sector) images
 unfolding overlaid
 overlaid-cons sectors image images = refl
-
--- ---- time, and what is armed
-
-pub elapses_none : (moment : ℕ) (left : ℕ → List Sector → Type 0) (in_call : List Sector → Type 0) → Elapses moment moment left left in_call
-elapses_none moment left in_call = record { later = omega arith; nothing_else = λ since image le was. inl was; keeps = λ since image le was. was }
-
-pub elapses_more : (first second third : ℕ) (one two three : ℕ → List Sector → Type 0) (P Q : List Sector → Type 0)
-    → Elapses first second one two P → Elapses second third two three Q → ((image : List Sector) → Q image → P image) → Elapses first third one three P
-elapses_more first second third one two three P Q a b weaker = record {
-  later = omega (arith, a.later, b.later);
-  nothing_else = λ since image le was. elim (b.nothing_else since image (omega (arith, le, a.later)) was) [
-    | inl before ↦ a.nothing_else since image le before
-    | inr within ↦ inr (weaker image within)
-  ];
-  keeps = λ since image le was. b.keeps since image (omega (arith, le, a.later)) (a.keeps since image le was);
-}

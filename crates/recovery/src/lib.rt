@@ -7,18 +7,18 @@ mod found;
 mod high;
 mod homes;
 mod last;
-mod scanning;
 mod overlay;
 mod replaying;
 mod ring;
+mod scanning;
 mod start;
 
 pub use fault::ScanFault;
 pub use found::Found;
 pub use homes::HomeImages;
-pub use scanning::scan;
 pub use overlay::Overlay;
 pub use replaying::replay;
+pub use scanning::scan;
 pub use start::{ReplayFault, Start};
 
 #[cfg(test)]

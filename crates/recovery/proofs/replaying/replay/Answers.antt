@@ -2,10 +2,10 @@ use Rattle.std.proofs.Common.{List}
 use Rattle.geometry.specs.Places.{anchor_of}
 use Rattle.life_bytes.specs.declared.sector.Sector.{Sector}
 use Rattle.disk_model.specs.Disk.{as_read}
-use Rattle.disk_model.specs.DiskLaws.{IsImage-as_read}
+use Rattle.disk_model.specs.DiskLaws.{Elapses-more, Elapses-none, IsImage-as_read}
 use Rattle.recovery.specs.Put.{IsPartlyPut}
 use Rattle.recovery.specs.Replay.{IsEither, Recovers, groups_found}
-use Rattle.recovery.proofs.Puts.{elapses_more, elapses_none, put_first}
+use Rattle.recovery.proofs.Puts.{put_first}
 use Rattle.disk_model.specs.DiskLaws.{IsAfterWrites-both}
 use Rattle.recovery.proofs.Recovering.{Laws, Home, begins_anew, recovers_either, recovers_partly}
 use Rattle.recovery.proofs.replaying.replay.Goals as goal
@@ -29,8 +29,8 @@ returns-in_err-settle_home-clause-time g c known =
     let old = c.args.disk.now in
     let laws : Laws = record { log = c.home_writes.ensures.log; replays = c.home_writes.ensures.replayed; bounds = c.logs.ensures.bounds; empty = c.logs.ensures.empty } in
     let P : List Sector → Type 0 = Recovers (anchor_of c.args.g.now) c.args.g.now.ring (groups_found (anchor_of c.args.g.now) (as_read (d.cells old)) c.args.found.now) c.args.found.now.next_commit in
-    elapses_more (d.moment old) (d.moment old) (d.moment c.settle_home.new.disk) (d.left_since old) (d.left_since old) (d.left_since c.settle_home.new.disk)
-    P (IsPartlyPut c.args.found.now.images (as_read (d.cells old))) (elapses_none (d.moment old) (d.left_since old) P)
+    Elapses-more (d.moment old) (d.moment old) (d.moment c.settle_home.new.disk) (d.left_since old) (d.left_since old) (d.left_since c.settle_home.new.disk)
+    P (IsPartlyPut c.args.found.now.images (as_read (d.cells old))) (Elapses-none (d.moment old) (d.left_since old) P)
     (c.settle_home.ensures.time known (c.requires.one known))
     (recovers_partly laws (as_read (d.cells old)) (anchor_of c.args.g.now) c.args.g.now.ring c.args.found.now (c.requires.found known) c.requires.homes)
 
@@ -63,11 +63,11 @@ returns-in_err-settle_sector-clause-time g c known =
       reads = c.in_ok-settle_home.ensures.reads known;
     } in
     let P : List Sector → Type 0 = Recovers (anchor_of c.args.g.now) c.args.g.now.ring (groups_found (anchor_of c.args.g.now) (as_read (d.cells old)) c.args.found.now) c.args.found.now.next_commit in
-    let first = elapses_more (d.moment old) (d.moment old) (d.moment c.settle_home.new.disk) (d.left_since old) (d.left_since old) (d.left_since c.settle_home.new.disk)
-    P (IsPartlyPut c.args.found.now.images (as_read (d.cells old))) (elapses_none (d.moment old) (d.left_since old) P)
+    let first = Elapses-more (d.moment old) (d.moment old) (d.moment c.settle_home.new.disk) (d.left_since old) (d.left_since old) (d.left_since c.settle_home.new.disk)
+    P (IsPartlyPut c.args.found.now.images (as_read (d.cells old))) (Elapses-none (d.moment old) (d.left_since old) P)
     (c.settle_home.ensures.time known (c.requires.one known))
     (recovers_partly laws (as_read (d.cells old)) (anchor_of c.args.g.now) c.args.g.now.ring c.args.found.now (c.requires.found known) c.requires.homes) in
-    elapses_more (d.moment old) (d.moment c.settle_home.new.disk) (d.moment c.settle_sector.new.disk)
+    Elapses-more (d.moment old) (d.moment c.settle_home.new.disk) (d.moment c.settle_sector.new.disk)
     (d.left_since old) (d.left_since c.settle_home.new.disk) (d.left_since c.settle_sector.new.disk)
     P (IsEither (as_read cells) c.anchor_of-anchor.result c.anchor_at.result) first (c.settle_sector.ensures.time known (c.in_ok-settle_home.ensures.one known))
     (recovers_either laws (as_read (d.cells old)) (anchor_of c.args.g.now) c.args.g.now.ring c.args.found.now (as_read cells) c.in-Some.start
@@ -124,11 +124,11 @@ returns-clause-time g c known =
       reads = c.in_ok-settle_home.ensures.reads known;
     } in
     let P : List Sector → Type 0 = Recovers (anchor_of c.args.g.now) c.args.g.now.ring (groups_found (anchor_of c.args.g.now) (as_read (d.cells old)) c.args.found.now) c.args.found.now.next_commit in
-    let first = elapses_more (d.moment old) (d.moment old) (d.moment c.settle_home.new.disk) (d.left_since old) (d.left_since old) (d.left_since c.settle_home.new.disk)
-    P (IsPartlyPut c.args.found.now.images (as_read (d.cells old))) (elapses_none (d.moment old) (d.left_since old) P)
+    let first = Elapses-more (d.moment old) (d.moment old) (d.moment c.settle_home.new.disk) (d.left_since old) (d.left_since old) (d.left_since c.settle_home.new.disk)
+    P (IsPartlyPut c.args.found.now.images (as_read (d.cells old))) (Elapses-none (d.moment old) (d.left_since old) P)
     (c.settle_home.ensures.time known (c.requires.one known))
     (recovers_partly laws (as_read (d.cells old)) (anchor_of c.args.g.now) c.args.g.now.ring c.args.found.now (c.requires.found known) c.requires.homes) in
-    elapses_more (d.moment old) (d.moment c.settle_home.new.disk) (d.moment c.settle_sector.new.disk)
+    Elapses-more (d.moment old) (d.moment c.settle_home.new.disk) (d.moment c.settle_sector.new.disk)
     (d.left_since old) (d.left_since c.settle_home.new.disk) (d.left_since c.settle_sector.new.disk)
     P (IsEither (as_read cells) c.anchor_of-anchor.result c.anchor_at.result) first (c.settle_sector.ensures.time known (c.in_ok-settle_home.ensures.one known))
     (recovers_either laws (as_read (d.cells old)) (anchor_of c.args.g.now) c.args.g.now.ring c.args.found.now (as_read cells) c.in-Some.start

@@ -1,9 +1,9 @@
 use Rattle.std.proofs.Common.{◌∷◌, [], List, ap, sym, subst, ◌∙◌}
 use Rattle.life_bytes.specs.declared.sector.Sector.{Sector}
 use Rattle.disk_model.specs.Disk.{Cell, HasOneImage, IsImage, as_read, written}
-use Rattle.disk_model.specs.DiskLaws.{HasOneImage-flushed, IsImage-before_flush, IsImage-partly_written, as_read-flushed}
+use Rattle.disk_model.specs.DiskLaws.{Elapses-more, Elapses-none, HasOneImage-flushed, IsImage-before_flush, IsImage-partly_written, as_read-flushed}
 use Rattle.recovery.specs.Replay.{IsEither}
-use Rattle.recovery.proofs.Puts.{as_read_put, elapses_more, elapses_none}
+use Rattle.recovery.proofs.Puts.{as_read_put}
 use Rattle.recovery.proofs.Recovering.{either_image}
 use Rattle.recovery.proofs.replaying.settle_sector.Goals as goal
 
@@ -18,9 +18,9 @@ returns-in_default-clause-time g c known one =
     let d = g.D.Disk in
     let old = c.args.disk.now in
     let P : List Sector → Type 0 = IsEither (as_read (d.cells old)) c.args.at c.args.sector.now in
-    elapses_more (d.moment old) (d.moment old) (d.moment c.write.new.self) (d.left_since old) (d.left_since old) (d.left_since c.write.new.self)
+    Elapses-more (d.moment old) (d.moment old) (d.moment c.write.new.self) (d.left_since old) (d.left_since old) (d.left_since c.write.new.self)
     P (IsImage (written c.args.at (c.args.sector.now ∷ []) (d.cells old)))
-    (elapses_none (d.moment old) (d.left_since old) P) (c.write.ensures.time known) (either_image c.args.at c.args.sector.now (d.cells old) one)
+    (Elapses-none (d.moment old) (d.left_since old) P) (c.write.ensures.time known) (either_image c.args.at c.args.sector.now (d.cells old) one)
 
 pub returns-in_default-flush-clause-left : goal.returns-in_default-flush-clause-left
 returns-in_default-flush-clause-left g c known one image is =
@@ -34,9 +34,9 @@ returns-in_default-flush-clause-time g c known one =
     let old = c.args.disk.now in
     let P : List Sector → Type 0 = IsEither (as_read (d.cells old)) c.args.at c.args.sector.now in
     let W : List Sector → Type 0 = IsImage (written c.args.at (c.args.sector.now ∷ []) (d.cells old)) in
-    let first = elapses_more (d.moment old) (d.moment old) (d.moment c.write.new.self) (d.left_since old) (d.left_since old) (d.left_since c.write.new.self)
-    P W (elapses_none (d.moment old) (d.left_since old) P) (c.write.ensures.time known) (either_image c.args.at c.args.sector.now (d.cells old) one) in
-    elapses_more (d.moment old) (d.moment c.write.new.self) (d.moment c.flush.new.self) (d.left_since old) (d.left_since c.write.new.self) (d.left_since c.flush.new.self)
+    let first = Elapses-more (d.moment old) (d.moment old) (d.moment c.write.new.self) (d.left_since old) (d.left_since old) (d.left_since c.write.new.self)
+    P W (Elapses-none (d.moment old) (d.left_since old) P) (c.write.ensures.time known) (either_image c.args.at c.args.sector.now (d.cells old) one) in
+    Elapses-more (d.moment old) (d.moment c.write.new.self) (d.moment c.flush.new.self) (d.left_since old) (d.left_since c.write.new.self) (d.left_since c.flush.new.self)
     P (IsImage (d.cells c.write.new.self)) first (c.flush.ensures.time known)
     (λ image is. either_image c.args.at c.args.sector.now (d.cells old) one image (subst (λ (cs : List Cell). IsImage cs image) (c.in-Ok.ensures.written known) is))
 
@@ -61,8 +61,8 @@ returns-clause-time g c known one =
     let old = c.args.disk.now in
     let P : List Sector → Type 0 = IsEither (as_read (d.cells old)) c.args.at c.args.sector.now in
     let W : List Sector → Type 0 = IsImage (written c.args.at (c.args.sector.now ∷ []) (d.cells old)) in
-    let first = elapses_more (d.moment old) (d.moment old) (d.moment c.write.new.self) (d.left_since old) (d.left_since old) (d.left_since c.write.new.self)
-    P W (elapses_none (d.moment old) (d.left_since old) P) (c.write.ensures.time known) (either_image c.args.at c.args.sector.now (d.cells old) one) in
-    elapses_more (d.moment old) (d.moment c.write.new.self) (d.moment c.flush.new.self) (d.left_since old) (d.left_since c.write.new.self) (d.left_since c.flush.new.self)
+    let first = Elapses-more (d.moment old) (d.moment old) (d.moment c.write.new.self) (d.left_since old) (d.left_since old) (d.left_since c.write.new.self)
+    P W (Elapses-none (d.moment old) (d.left_since old) P) (c.write.ensures.time known) (either_image c.args.at c.args.sector.now (d.cells old) one) in
+    Elapses-more (d.moment old) (d.moment c.write.new.self) (d.moment c.flush.new.self) (d.left_since old) (d.left_since c.write.new.self) (d.left_since c.flush.new.self)
     P (IsImage (d.cells c.write.new.self)) first (c.flush.ensures.time known)
     (λ image is. either_image c.args.at c.args.sector.now (d.cells old) one image (subst (λ (cs : List Cell). IsImage cs image) (c.in-Ok.ensures.written known) is))

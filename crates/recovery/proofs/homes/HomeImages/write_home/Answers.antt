@@ -4,13 +4,13 @@ use Rattle.std.specs.Map.Iter.{deref_pair}
 use Rattle.std.proofs.lemmas.Map.Iter.{rest_more, rest_all}
 use Rattle.life_bytes.specs.declared.sector.Sector.{Sector}
 use Rattle.disk_model.specs.Disk.{Cell, IsImage, as_read, written}
-use Rattle.disk_model.specs.DiskLaws.{IsImage-partly_written}
+use Rattle.disk_model.specs.DiskLaws.{Elapses-more, Elapses-none, IsImage-partly_written}
 use Rattle.log_record.specs.declared.image.Image.{Image}
 use Rattle.log_image.specs.Overlay.{overlaid}
 use Rattle.recovery.specs.Homes.{images_in}
 use Rattle.recovery.specs.Put.{IsPartlyPut}
 use Rattle.disk_model.specs.DiskLaws.{IsAfterWrites-both, IsAfterWrites-none}
-use Rattle.recovery.proofs.Puts.{AreLeft, as_read_put, elapses_more, elapses_none, left_all, overlaid-cons, overlaid-nil, put_first, put_more}
+use Rattle.recovery.proofs.Puts.{AreLeft, as_read_put, left_all, overlaid-cons, overlaid-nil, put_first, put_more}
 use Rattle.recovery.proofs.homes.HomeImages.write_home.Goals as goal
 
 pub loop-home-init : goal.loop-home-init
@@ -29,7 +29,7 @@ loop-home-init g c =
       armed = IsAfterWrites-none (d.arming disk);
       reads = λ known. ap (λ (l : List (ℕ × Sector)). overlaid (as_read (d.cells disk)) (images_in l)) all ∙ ap (overlaid (as_read (d.cells disk))) c.self.view_is;
       left = λ known one. put_first c.args.self.now (d.cells disk) one;
-      time = λ known one. elapses_none (d.moment disk) (d.left_since disk) (IsPartlyPut c.args.self.now (as_read (d.cells disk)));
+      time = λ known one. Elapses-none (d.moment disk) (d.left_since disk) (IsPartlyPut c.args.self.now (as_read (d.cells disk)));
     }
 
 pub loop-home-preserved : goal.loop-home-preserved
@@ -57,7 +57,7 @@ loop-home-preserved g c =
           put_more c.args.self.now base cells home sector (inv.left known one) left.0 image
           (subst (λ (cs : List Cell). IsImage cs image) (c.in_ok-write.ensures.written known) is);
       time = λ known one.
-          elapses_more (d.moment c.args.disk.now) (d.moment c.loop-home.disk) (d.moment c.write.new.self)
+          Elapses-more (d.moment c.args.disk.now) (d.moment c.loop-home.disk) (d.moment c.write.new.self)
           (d.left_since c.args.disk.now) (d.left_since c.loop-home.disk) (d.left_since c.write.new.self)
           (IsPartlyPut c.args.self.now base) (IsImage (written home (sector ∷ []) cells))
           (inv.time known one) (c.write.ensures.time known) (put_more c.args.self.now base cells home sector (inv.left known one) left.0);
@@ -88,7 +88,7 @@ returns-in_err-write-clause-time g c known one =
     let split : c.loop-home.home-iterator ≡ (home, sector) ∷ c.next.new.self =
     rest_more deref_pair c.loop-home.home-iterator c.next.new.self c.next.result (c.in-Some.home, c.in-Some.sector) c.in-Some.is c.next.ensures.steps in
     let left = subst (λ (l : List (ℕ × Sector)). AreLeft c.args.self.now (d.sector_count c.loop-home.disk) l) split inv.rest in
-    elapses_more (d.moment c.args.disk.now) (d.moment c.loop-home.disk) (d.moment c.write.new.self)
+    Elapses-more (d.moment c.args.disk.now) (d.moment c.loop-home.disk) (d.moment c.write.new.self)
     (d.left_since c.args.disk.now) (d.left_since c.loop-home.disk) (d.left_since c.write.new.self)
     (IsPartlyPut c.args.self.now base) (IsImage (written home (sector ∷ []) cells))
     (inv.time known one) (c.write.ensures.time known) (put_more c.args.self.now base cells home sector (inv.left known one) left.0)
