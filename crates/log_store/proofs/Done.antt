@@ -17,9 +17,9 @@ use Rattle.log_store.specs.declared.store.Job.TheVariants.{Clear, Force, Home, I
 use Rattle.log_store.specs.declared.store.Stage.{Stage}
 use Rattle.log_store.specs.declared.store.Stage.TheVariants.{Cover, Down, Free, Half, Record}
 use Rattle.log_store.specs.declared.store.Store.{Store}
-use Rattle.log_store.specs.Calls.{has_room}
+use Rattle.log_store.specs.Calls.{has_room, with_batch}
 use Rattle.log_store.specs.Actions
-use Rattle.log_store.specs.Actions.{Action, IsDoneBy, IsGathered, IsStep, action_at, cover_progress, done_state, failed_state, force_action, gathers, gathers_at_rest, home_action, home_progress, job_at_rest, left_progress, room_action, state_after, step_action, step_job, turned_force, with_batch, within_positions}
+use Rattle.log_store.specs.Actions.{Action, IsDoneBy, IsGathered, IsStep, action_at, cover_progress, done_state, failed_state, force_action, gathers, gathers_at_rest, home_action, home_progress, job_at_rest, left_progress, room_action, state_after, step_action, step_job, turned_force, within_positions}
 use Rattle.log_store.specs.State.{State, state_of}
 use Rattle.log_store.specs.Steps.{Covering, JobFits}
 

@@ -12,8 +12,13 @@ use Rattle.log_store.specs.declared.fault.StoreFault.TheVariants as faults
 use Rattle.log_store.specs.declared.store.Stage.{Stage}
 use Rattle.log_store.specs.declared.store.Stage.TheVariants.{Cover, Down, Free, Half, Record}
 use Rattle.log_store.specs.declared.store.Store.{Store}
+use Rattle.log_store.specs.Calls.{with_batch}
 use Rattle.log_store.specs.Actions
-use Rattle.log_store.specs.Actions.{Action, Counts, GoesOn, IsStep, IsWholeJob, MaySucceed, done_state, step_action, with_batch}
+use Rattle.log_store.specs.Actions.{Action, CountsFaults, GoesOn, HasNothing, IsStepAnswer, IsDoneBy, IsStep, IsWholeJob, MaySucceed, action_at, done_state, force_action, job_at_rest, step_action, step_job, turned_force}
+use Rattle.log_store.proofs.Done.{all_home}
+use Rattle.log_store.specs.declared.store.Job.{Job}
+use Rattle.log_store.specs.declared.store.Job.TheVariants.{Clear, Force, Home, Idle, Nothing, WriteBack}
+use Rattle.log_record.specs.declared.image.Commit.{Commit}
 use Rattle.log_store.specs.Outcome.{down_count}
 use Rattle.log_store.specs.State.{State, state_of}
 
@@ -66,7 +71,7 @@ answered (Err other) fault is = ap Err is
 
 -- ---- the count of faults
 
-pub counts_rise : (result : Result Progress StoreFault) (before now : ℕ) → Counts result before now → before ≤ now
+pub counts_rise : (result : Result Progress StoreFault) (before now : ℕ) → CountsFaults result before now → before ≤ now
 counts_rise (Ok progress) before now is = is
 counts_rise (Err WriteFault) before now is = is.0
 counts_rise (Err FlushFault) before now is = is.0
@@ -84,3 +89,42 @@ pub last_one : {D : Type 0} (known : Bool) (cells : D → List Cell) (sectors : 
     (result : Result Progress StoreFault) (old last new : Store D) → (n : ℕ) × GoesOn known cells sectors arming count n old last
     → IsStep known cells sectors arming count result last new → IsWholeJob known cells sectors arming count result old new
 last_one known cells sectors arming count result old last new some step = record { count = some.0; last = last; before = some.1; end = step }
+
+-- ---- a job with nothing to do
+
+end_other : Actions.end_job ≡ Actions.end_positions → ⊥
+end_other is = cc
+
+end_up : (fault : ℕ) → Actions.end_job ≡ Actions.stay_down fault → ⊥
+end_up fault is = cc
+
+nothing_rest : (job : Job) (s n : State) → HasNothing job s
+    → action_at Free (job_at_rest job (with_batch s n)) (with_batch s n) ≡ Actions.end_job
+nothing_rest Force s n none =
+    let g : State = with_batch s n in
+    ap (λ (l : List Commit). action_at Free (turned_force l g) g) none ∙ ap (λ (l : List Commit). force_action l g) none
+nothing_rest WriteBack s n none = all_home s.dirty s.unflushed Actions.end_job none.0 none.1
+nothing_rest Nothing s n none = refl
+nothing_rest Idle s n none = refl
+nothing_rest Clear s n none = absurd none
+nothing_rest Home s n none = absurd none
+
+end_answers : (result : Result Progress StoreFault) (job : Job) (s : State) → IsStepAnswer result Actions.end_job job s → result ≡ Ok Ended
+end_answers (Ok progress) job s is = ap Ok is.1
+end_answers (Err WriteFault) job s is = absurd is
+end_answers (Err FlushFault) job s is = absurd is
+end_answers (Err PositionEnd) job s is = absurd (end_other is)
+end_answers (Err (faults.Down fault)) job s is = absurd (end_up fault is)
+
+-- its step ends it and makes no call
+pub nothing_step : {D : Type 0} (known : Bool) (cells : D → List Cell) (sectors : D → ℕ) (arming : D → Arming) (count : D → ℕ)
+    (result : Result Progress StoreFault) (old new : Store D) → IsStep known cells sectors arming count result old new
+    → old.stage ≡ Free → HasNothing old.job (state_of old) → (result ≡ Ok Ended) × (new.disk ≡ old.disk)
+nothing_step known cells sectors arming count result old new step free none =
+    let s : State = state_of old in
+    let g : State = with_batch s (state_of new) in
+    let job : Job = step_job old.stage old.job g in
+    let action : step_action old.stage old.job g ≡ Actions.end_job =
+    ap (λ (st : Stage). step_action st old.job g) free ∙ nothing_rest old.job s (state_of new) none in
+    let done = subst (λ (a : Action). IsDoneBy known cells sectors arming count a result job g old.disk new) action step.done in
+    (end_answers result job g done.answer, done.call)

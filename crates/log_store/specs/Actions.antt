@@ -18,7 +18,7 @@ use Rattle.log_store.specs.declared.store.Job.TheVariants.{Clear, Force, Home, I
 use Rattle.log_store.specs.declared.store.Stage.{Stage}
 use Rattle.log_store.specs.declared.store.Stage.TheVariants.{Free, Half, Record, Cover, Down}
 use Rattle.log_store.specs.declared.store.Store.{Store}
-use Rattle.log_store.specs.Calls.{DeviceCall, Flushes, Made, Writes, has_room, none, write, flush}
+use Rattle.log_store.specs.Calls.{DeviceCall, Flushes, Made, Writes, has_room, with_batch, none, write, flush}
 use Rattle.log_store.specs.Landed.{covered_state, flushed_home, landed, written_home}
 use Rattle.log_store.specs.OnDisk.{cover_record, item_of}
 use Rattle.log_store.specs.State.{State, state_of}
@@ -191,30 +191,30 @@ MaySucceed write_cover = Unit {0}
 MaySucceed flush_cover = Unit {0}
 
 -- What may be answered: a write fault comes of a write, a flush fault of a flush, and the others of nothing but what they say.
-abbrev pub IsAnswer : Result Progress StoreFault → Action → Job → State → Type 0
-IsAnswer (Ok progress) action job s = MaySucceed action × (progress ≡ progress_of action job s)
-IsAnswer (Err WriteFault) action job s = Writes (call_of action s)
-IsAnswer (Err FlushFault) action job s = Flushes (call_of action s)
-IsAnswer (Err PositionEnd) action job s = action ≡ end_positions
-IsAnswer (Err (faults.Down fault)) action job s = action ≡ stay_down fault
+abbrev pub IsStepAnswer : Result Progress StoreFault → Action → Job → State → Type 0
+IsStepAnswer (Ok progress) action job s = MaySucceed action × (progress ≡ progress_of action job s)
+IsStepAnswer (Err WriteFault) action job s = Writes (call_of action s)
+IsStepAnswer (Err FlushFault) action job s = Flushes (call_of action s)
+IsStepAnswer (Err PositionEnd) action job s = action ≡ end_positions
+IsStepAnswer (Err (faults.Down fault)) action job s = action ≡ stay_down fault
 
 -- the disk's counts of faults before and after: it does not fall, and rose where a call failed
-abbrev pub Counts : Result Progress StoreFault → ℕ → ℕ → Type 0
-Counts (Ok progress) before now = before ≤ now
-Counts (Err WriteFault) before now = (before ≤ now) × Rose before now
-Counts (Err FlushFault) before now = (before ≤ now) × Rose before now
-Counts (Err PositionEnd) before now = now ≡ before
-Counts (Err (faults.Down fault)) before now = now ≡ before
+abbrev pub CountsFaults : Result Progress StoreFault → ℕ → ℕ → Type 0
+CountsFaults (Ok progress) before now = before ≤ now
+CountsFaults (Err WriteFault) before now = (before ≤ now) × Rose before now
+CountsFaults (Err FlushFault) before now = (before ≤ now) × Rose before now
+CountsFaults (Err PositionEnd) before now = now ≡ before
+CountsFaults (Err (faults.Down fault)) before now = now ≡ before
 
 -- The action was made, by a job from a state over a disk, with this answer: the store after it.
 pub record IsDoneBy {D : Type 0} (known : Bool) (cells : D → List Cell) (sectors : D → ℕ) (arming : D → Arming) (faults : D → ℕ)
     (action : Action) (result : Result Progress StoreFault) (was : Job) (s : State) (disk : D) (new : Store D) : Type 0 where
-  pub answer : IsAnswer result action was s
+  pub answer : IsStepAnswer result action was s
   pub state : state_of new ≡ state_after result (faults new.disk) action s
   pub job : new.job ≡ job_after result action was
   pub call : Made known cells arming (call_of action s) result disk new.disk
   pub size : sectors new.disk ≡ sectors disk
-  pub count : Counts result (faults disk) (faults new.disk)
+  pub count : CountsFaults result (faults disk) (faults new.disk)
 
 -- ---- a step
 
@@ -265,10 +265,6 @@ step_job (Down fault) job s = job
 abbrev pub step_action : Stage → Job → State → Action
 step_action stage job s = action_at stage (step_job stage job s) s
 
--- the state before a step with the record that was gathered in it
-abbrev pub with_batch : State → State → State
-with_batch old new = record old { batch = new.batch; taken = new.taken }
-
 -- One step of a store: a record is gathered where a force asks for one, and the action that comes is made.
 pub record IsStep {D : Type 0} (known : Bool) (cells : D → List Cell) (sectors : D → ℕ) (arming : D → Arming) (faults : D → ℕ)
     (result : Result Progress StoreFault) (old new : Store D) : Type 0 where
@@ -293,6 +289,15 @@ pub record IsWholeJob {D : Type 0} (known : Bool) (cells : D → List Cell) (sec
   pub last : Store D
   pub before : GoesOn known cells sectors arming faults count old last
   pub end : IsStep known cells sectors arming faults result last new
+
+-- a job that has nothing to do where nothing is in flight
+abbrev pub HasNothing : Job → State → Type 0
+HasNothing Force s = s.list ≡ []
+HasNothing WriteBack s = (s.dirty ≡ []) × (s.unflushed ≡ false)
+HasNothing Nothing s = Unit {0}
+HasNothing Idle s = Unit {0}
+HasNothing Clear s = ⊥
+HasNothing Home s = ⊥
 
 -- the answer of the step that ends a job
 abbrev pub last_answer : {T : Type 0} → Result T StoreFault → Result Progress StoreFault

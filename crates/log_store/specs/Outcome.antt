@@ -12,7 +12,7 @@ use Rattle.log_store.specs.declared.store.Job.{Job}
 use Rattle.log_store.specs.declared.store.Job.TheVariants.{Clear, Force, Home, Idle, Nothing, WriteBack}
 use Rattle.log_store.specs.declared.store.Stage.{Stage}
 use Rattle.log_store.specs.declared.store.Stage.TheVariants.{Free, Half, Record, Cover, Down}
-use Rattle.log_store.specs.Calls.{DeviceCall, Flushes, Writes, after_gather, call_at, gathered}
+use Rattle.log_store.specs.Calls.{after_gather}
 use Rattle.log_store.specs.State.{State}
 use Rattle.log_store.specs.Steps.{Covering}
 
@@ -54,6 +54,12 @@ steps_at (Down fault) job s = 0
 abbrev pub steps_left : State → Job → ℕ
 steps_left s job = 600 * length s.list + 2 * length s.dirty + steps_at s.stage job s
 
+-- A step after which the job goes on leaves fewer.
+abbrev pub Shrinks : Result Progress StoreFault → State → State → Job → Job → Type 0
+Shrinks (Ok More) old new was job = steps_left new job < steps_left old was
+Shrinks (Ok Ended) old new was job = Unit {0}
+Shrinks (Err fault) old new was job = Unit {0}
+
 -- A write of the log failed, and the store is down, with the disk's count then. No job that only writes back comes to it.
 abbrev pub LogFails : State → Job → ℕ → Type 0
 LogFails new was now = (new.stage ≡ Down now) × (was ≢ WriteBack)
@@ -61,10 +67,6 @@ LogFails new was now = (new.stage ≡ Down now) × (was ≢ WriteBack)
 -- A home write failed: its sector is still dirty, and the store goes on.
 abbrev pub HomeFails : State → State → Type 0
 HomeFails old new = (old.dirty ≢ []) × (new.dirty ≡ old.dirty) × (old.stage ≡ Free) × (new.stage ≡ Free)
-
--- the call of a step from one state to another, where it does not end before one
-abbrev pub step_call : State → State → Job → DeviceCall
-step_call old new was = call_at old.stage was (gathered old new)
 
 -- a cover comes next, and would end past the last position
 abbrev pub CoverEndsPast : State → Type 0
@@ -151,11 +153,11 @@ Rises covers left old new =
 -- What a step answers, with the state and the job before and after it, and the disk's counts of faults. After a failed
 -- write of the log or a failed flush the store is down, with the count then, and answers that and nothing else.
 abbrev pub IsStepOutcome : Result Progress StoreFault → State → State → Job → Job → ℕ → ℕ → Type 0
-IsStepOutcome (Ok More) old new was job before now = (goal_of job ≡ goal_of was) × (steps_left new job < steps_left old was) × (before ≤ now)
+IsStepOutcome (Ok More) old new was job before now = (goal_of job ≡ goal_of was) × (before ≤ now)
 IsStepOutcome (Ok Ended) old new was job before now = (job ≡ Idle) × IsDone was new × (before ≤ now)
 IsStepOutcome (Err WriteFault) old new was job before now =
-    (job ≡ Idle) × Rose before now × (LogFails new was now ⊎ HomeFails old new) × Writes (step_call old new was)
-IsStepOutcome (Err FlushFault) old new was job before now = (job ≡ Idle) × Rose before now × (new.stage ≡ Down now) × Flushes (step_call old new was)
+    (job ≡ Idle) × Rose before now × (LogFails new was now ⊎ HomeFails old new)
+IsStepOutcome (Err FlushFault) old new was job before now = (job ≡ Idle) × Rose before now × (new.stage ≡ Down now)
 IsStepOutcome (Err PositionEnd) old new was job before now = (job ≡ Idle) × (new ≡ after_gather was old new) × (now ≡ before)
 IsStepOutcome (Err (faults.Down fault)) old new was job before now = (job ≡ Idle) × (old.stage ≡ Down fault) × (new ≡ old) × (now ≡ before)
 

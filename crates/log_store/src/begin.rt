@@ -1,14 +1,18 @@
 // The start and the end of a store, and what may be asked of it.
-ghost use Rattle.std.specs.Prelude.{◌≡◌, ◌≤◌, ◌<◌, ◌+◌, ◌-◌, ◌^◌, ◌↔◌, ◌≢◌, [], IsTrue, IfOk, IfErr, Some, None};
+ghost use Rattle.std.specs.Prelude.{◌≡◌, ◌≤◌, ◌<◌, ◌+◌, ◌-◌, ◌^◌, ◌↔◌, ◌≢◌, List, [], length, IsTrue, IfOk, IfErr, Some, None};
 ghost use Rattle.life_limits.specs.declared.TheConstants.{MAX_RING, MIN_RING, MOUNT_LIMIT};
-ghost use Rattle.disk_model.specs.Disk.{HasOneImage, as_read};
+ghost use Rattle.life_bytes.specs.declared.sector.Sector.{Sector};
+ghost use Rattle.disk_model.specs.Disk.{HasOneImage, IsImage, as_read};
 ghost use Rattle.log_image.specs.Anchor.{HasAnchor};
 ghost use Rattle.log_image.specs.Log.{AreBelow, ring_part};
 ghost use Rattle.log_store.specs.declared.store.Job.TheVariants.{Idle};
 ghost use Rattle.log_store.specs.declared.store.Stage.TheVariants.{Down, Free};
+ghost use Rattle.log_store.specs.OnDisk.{ReplaysTo};
+ghost use Rattle.log_store.specs.State.{state_of};
 ghost use Rattle.log_store.specs.Steps.{IsNew, IsStore};
 ghost use Rattle.log_store.specs.Outcome.{down_count};
 
+use crate::laws::states;
 use crate::store::{Job, Stage, Store};
 use disk_model::Disk;
 use life_bytes::Sector;
@@ -90,6 +94,24 @@ impl<D: Disk> Store<D> {
         ensures { result ≡ self.now.durable }
     {
         self.durable
+    }
+
+    /// The number that the next commit gets that is taken.
+    pub fn next_commit(&self) -> u64
+        requires { IsStore D.known D.cells D.sector_count self.now }
+        ensures { result ≡ self.now.durable + length self.now.queue.items + 1 }
+    {
+        self.durable + self.queue.len() as u64 + 1
+    }
+
+    /// Law: between two calls, each image that a crash may leave of the disk replays to the base, with the images of
+    /// some first commits of the list over it.
+    pub fn images_replay(&self)
+        requires { IsStore D.known D.cells D.sector_count self.now }
+        ensures { IsTrue D.known → (image : List Sector) → IsImage (D.cells self.now.disk) image
+            → ReplaysTo (state_of self.now) (D.cells self.now.disk) image }
+    {
+        states();
     }
 
     /// The disk's count of faults after the failure that took the store down, if it is down.

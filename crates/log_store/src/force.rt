@@ -5,7 +5,7 @@ ghost use Rattle.disk_model.specs.Disk.{IsAfterWrites, IsImage};
 ghost use Rattle.log_store.specs.OnDisk.{ReplaysTo};
 ghost use Rattle.log_store.specs.declared.store.Job.TheVariants.{Force, Home, Idle, WriteBack};
 ghost use Rattle.log_store.specs.declared.store.Stage.TheVariants.{Down, Free};
-ghost use Rattle.log_store.specs.Actions.{IsWholeJob, last_answer};
+ghost use Rattle.log_store.specs.Actions.{HasNothing, IsWholeJob, last_answer};
 ghost use Rattle.log_store.specs.Outcome.{CoverEndsPast, Covered, IsDone, IsFault, Rises, PositionsStay, covers_of, down_count};
 ghost use Rattle.log_store.specs.State.{state_of};
 ghost use Rattle.log_store.specs.Steps.{Goes, IsStore, JobAsks};
@@ -20,7 +20,9 @@ impl<D: Disk> Store<D> {
     fn run(&mut self) -> Result<(), StoreFault>
         requires { IsStore D.known D.cells D.sector_count self.old }
         ensures goes { Goes D.known D.cells D.sector_count D.moment D.left_since self.old self.new }
-        ensures whole { IsWholeJob D.known D.cells D.sector_count D.arming D.fault_count (last_answer result) self.old self.new }
+        ensures whole { IsWholeJob D.known D.cells D.sector_count D.arming D.fault_count
+            (last_answer result) self.old self.new }
+        ensures nothing { HasNothing self.old.job (state_of self.old) → self.old.stage ≡ Free → self.new.disk ≡ self.old.disk }
         ensures count { D.fault_count self.old.disk ≤ D.fault_count self.new.disk }
         ensures up { OnOk result (down_count self.new.stage ≡ None) }
         ensures only_down { (fault : ℕ) → result ≡ Err (StoreFault.Down fault) → self.old.stage ≡ Down fault }
@@ -36,7 +38,7 @@ impl<D: Disk> Store<D> {
         ensures down { (fault : ℕ) → self.old.stage ≡ Down fault → (result ≡ Err (StoreFault.Down fault)) × (self.new ≡ record self.old { job = Idle }) }
     {
         loop {
-            match self.advance()? {
+            match self.make_step()? {
                 Progress::More => {}
                 Progress::Ended => return Ok(()),
             }
@@ -48,7 +50,9 @@ impl<D: Disk> Store<D> {
         requires store { IsStore D.known D.cells D.sector_count self.old }
         requires idle { self.old.job ≡ Idle }
         ensures goes { Goes D.known D.cells D.sector_count D.moment D.left_since self.old self.new }
-        ensures whole { IsWholeJob D.known D.cells D.sector_count D.arming D.fault_count (last_answer result) (record self.old { job = Force }) self.new }
+        ensures whole { IsWholeJob D.known D.cells D.sector_count D.arming D.fault_count
+            (last_answer result) (record self.old { job = Force }) self.new }
+        ensures nothing { self.old.queue.items ≡ [] → self.old.stage ≡ Free → self.new.disk ≡ self.old.disk }
         ensures count { D.fault_count self.old.disk ≤ D.fault_count self.new.disk }
         ensures up { OnOk result (down_count self.new.stage ≡ None) }
         ensures only_down { (fault : ℕ) → result ≡ Err (StoreFault.Down fault) → self.old.stage ≡ Down fault }
@@ -75,7 +79,10 @@ impl<D: Disk> Store<D> {
         requires store { IsStore D.known D.cells D.sector_count self.old }
         requires idle { self.old.job ≡ Idle }
         ensures goes { Goes D.known D.cells D.sector_count D.moment D.left_since self.old self.new }
-        ensures whole { IsWholeJob D.known D.cells D.sector_count D.arming D.fault_count (last_answer result) (record self.old { job = WriteBack }) self.new }
+        ensures whole { IsWholeJob D.known D.cells D.sector_count D.arming D.fault_count
+            (last_answer result) (record self.old { job = WriteBack }) self.new }
+        ensures nothing { self.old.dirty.images ≡ [] → self.old.unflushed ≡ false → self.old.stage ≡ Free
+            → self.new.disk ≡ self.old.disk }
         ensures count { D.fault_count self.old.disk ≤ D.fault_count self.new.disk }
         ensures up { OnOk result (down_count self.new.stage ≡ None) }
         ensures only_down { (fault : ℕ) → result ≡ Err (StoreFault.Down fault) → self.old.stage ≡ Down fault }
@@ -98,7 +105,8 @@ impl<D: Disk> Store<D> {
         requires home { self.old.dirty.images ≡ [] }
         requires flushed { self.old.unflushed ≡ false }
         ensures goes { Goes D.known D.cells D.sector_count D.moment D.left_since self.old self.new }
-        ensures whole { IsWholeJob D.known D.cells D.sector_count D.arming D.fault_count (last_answer result) (record self.old { job = Home }) self.new }
+        ensures whole { IsWholeJob D.known D.cells D.sector_count D.arming D.fault_count
+            (last_answer result) (record self.old { job = Home }) self.new }
         ensures count { D.fault_count self.old.disk ≤ D.fault_count self.new.disk }
         ensures up { OnOk result (down_count self.new.stage ≡ None) }
         ensures only_down { (fault : ℕ) → result ≡ Err (StoreFault.Down fault) → self.old.stage ≡ Down fault }

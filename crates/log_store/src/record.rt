@@ -8,8 +8,7 @@ ghost use Rattle.log_batch.specs.Newest.{IsBatch, IsCommit};
 ghost use Rattle.log_store.specs.declared.store.Job.TheVariants.{Force, Idle};
 ghost use Rattle.log_store.specs.declared.store.Stage.TheVariants.{Cover, Down, Free, Half, Record};
 ghost use Rattle.log_store.specs.Actions.{IsDoneBy, flush_cover, flush_record, within_positions, write_cover, write_record, write_rest};
-ghost use Rattle.log_store.specs.Calls.{Made, device_call};
-ghost use Rattle.log_store.specs.Outcome.{EndsExactly, IsStepOutcome, Rises, StepMoves, covers_of};
+ghost use Rattle.log_store.specs.Outcome.{EndsExactly, IsStepOutcome, Rises, Shrinks, StepMoves, covers_of};
 ghost use Rattle.log_store.specs.State.{state_of};
 ghost use Rattle.log_store.specs.Steps.{Covering, Goes, IsStore};
 
@@ -105,12 +104,13 @@ impl<D: Disk> Store<D> {
         requires size { self.old.count ≡ sector_count (length self.old.batch) }
         requires room { (self.old.positions.head - self.old.positions.tail) + self.old.count + 1 ≤ self.old.ring }
         ensures goes { Goes D.known D.cells D.sector_count D.moment D.left_since self.old self.new }
-        ensures done { IsDoneBy D.known D.cells D.sector_count D.arming D.fault_count (within_positions (self.old.positions.head + sector_count (length self.old.batch)) write_record) result self.old.job (state_of self.old) self.old.disk self.new }
+        ensures done { IsDoneBy D.known D.cells D.sector_count D.arming D.fault_count
+            (within_positions (self.old.positions.head + sector_count (length self.old.batch)) write_record) result self.old.job (state_of self.old) self.old.disk self.new }
         ensures outcome { IsStepOutcome result (state_of self.old) (state_of self.new) self.old.job self.new.job (D.fault_count self.old.disk) (D.fault_count self.new.disk) }
+        ensures smaller { Shrinks result (state_of self.old) (state_of self.new) self.old.job self.new.job }
         ensures end { EndsExactly result (state_of self.old) (state_of self.new) self.old.job }
         ensures moves { StepMoves result self.old.stage (state_of self.old) (state_of self.new) self.old.job }
         ensures rises { Rises (covers_of self.old.job) (covers_of self.new.job) (state_of self.old) (state_of self.new) }
-        ensures call { Made D.known D.cells D.arming (device_call result (state_of self.old) (state_of self.new) self.old.job) result self.old.disk self.new.disk }
     {
         flights();
         let head = self.positions.head();
@@ -149,12 +149,13 @@ impl<D: Disk> Store<D> {
         requires store { IsStore D.known D.cells D.sector_count self.old }
         requires stage { self.old.stage ≡ Half }
         ensures goes { Goes D.known D.cells D.sector_count D.moment D.left_since self.old self.new }
-        ensures done { IsDoneBy D.known D.cells D.sector_count D.arming D.fault_count write_rest result self.old.job (state_of self.old) self.old.disk self.new }
+        ensures done { IsDoneBy D.known D.cells D.sector_count D.arming D.fault_count
+            write_rest result self.old.job (state_of self.old) self.old.disk self.new }
         ensures outcome { IsStepOutcome result (state_of self.old) (state_of self.new) self.old.job self.new.job (D.fault_count self.old.disk) (D.fault_count self.new.disk) }
+        ensures smaller { Shrinks result (state_of self.old) (state_of self.new) self.old.job self.new.job }
         ensures end { EndsExactly result (state_of self.old) (state_of self.new) self.old.job }
         ensures moves { StepMoves result self.old.stage (state_of self.old) (state_of self.new) self.old.job }
         ensures rises { Rises (covers_of self.old.job) (covers_of self.new.job) (state_of self.old) (state_of self.new) }
-        ensures call { Made D.known D.cells D.arming (device_call result (state_of self.old) (state_of self.new) self.old.job) result self.old.disk self.new.disk }
     {
         flights();
         let part = self.straight();
@@ -176,12 +177,13 @@ impl<D: Disk> Store<D> {
         requires store { IsStore D.known D.cells D.sector_count self.old }
         requires stage { self.old.stage ≡ Record }
         ensures goes { Goes D.known D.cells D.sector_count D.moment D.left_since self.old self.new }
-        ensures done { IsDoneBy D.known D.cells D.sector_count D.arming D.fault_count flush_record result self.old.job (state_of self.old) self.old.disk self.new }
+        ensures done { IsDoneBy D.known D.cells D.sector_count D.arming D.fault_count
+            flush_record result self.old.job (state_of self.old) self.old.disk self.new }
         ensures outcome { IsStepOutcome result (state_of self.old) (state_of self.new) self.old.job self.new.job (D.fault_count self.old.disk) (D.fault_count self.new.disk) }
+        ensures smaller { Shrinks result (state_of self.old) (state_of self.new) self.old.job self.new.job }
         ensures end { EndsExactly result (state_of self.old) (state_of self.new) self.old.job }
         ensures moves { StepMoves result self.old.stage (state_of self.old) (state_of self.new) self.old.job }
         ensures rises { Rises (covers_of self.old.job) (covers_of self.new.job) (state_of self.old) (state_of self.new) }
-        ensures call { Made D.known D.cells D.arming (device_call result (state_of self.old) (state_of self.new) self.old.job) result self.old.disk self.new.disk }
     {
         flights();
         states();
@@ -214,13 +216,14 @@ impl<D: Disk> Store<D> {
         requires flushed { self.old.unflushed ≡ false }
         requires job { Covering self.old.job }
         ensures goes { Goes D.known D.cells D.sector_count D.moment D.left_since self.old self.new }
-        ensures done { IsDoneBy D.known D.cells D.sector_count D.arming D.fault_count (within_positions (self.old.positions.head + 1) write_cover) result self.old.job (state_of self.old) self.old.disk self.new }
+        ensures done { IsDoneBy D.known D.cells D.sector_count D.arming D.fault_count
+            (within_positions (self.old.positions.head + 1) write_cover) result self.old.job (state_of self.old) self.old.disk self.new }
         ensures batch { self.new.batch ≡ self.old.batch }
         ensures outcome { IsStepOutcome result (state_of self.old) (state_of self.new) self.old.job self.new.job (D.fault_count self.old.disk) (D.fault_count self.new.disk) }
+        ensures smaller { Shrinks result (state_of self.old) (state_of self.new) self.old.job self.new.job }
         ensures end { EndsExactly result (state_of self.old) (state_of self.new) self.old.job }
         ensures moves { StepMoves result self.old.stage (state_of self.old) (state_of self.new) self.old.job }
         ensures rises { Rises (covers_of self.old.job) (covers_of self.new.job) (state_of self.old) (state_of self.new) }
-        ensures call { Made D.known D.cells D.arming (device_call result (state_of self.old) (state_of self.new) self.old.job) result self.old.disk self.new.disk }
     {
         cover_flights();
         let head = self.positions.head();
@@ -253,12 +256,13 @@ impl<D: Disk> Store<D> {
         requires store { IsStore D.known D.cells D.sector_count self.old }
         requires stage { self.old.stage ≡ Cover }
         ensures goes { Goes D.known D.cells D.sector_count D.moment D.left_since self.old self.new }
-        ensures done { IsDoneBy D.known D.cells D.sector_count D.arming D.fault_count flush_cover result self.old.job (state_of self.old) self.old.disk self.new }
+        ensures done { IsDoneBy D.known D.cells D.sector_count D.arming D.fault_count
+            flush_cover result self.old.job (state_of self.old) self.old.disk self.new }
         ensures outcome { IsStepOutcome result (state_of self.old) (state_of self.new) self.old.job self.new.job (D.fault_count self.old.disk) (D.fault_count self.new.disk) }
+        ensures smaller { Shrinks result (state_of self.old) (state_of self.new) self.old.job self.new.job }
         ensures end { EndsExactly result (state_of self.old) (state_of self.new) self.old.job }
         ensures moves { StepMoves result self.old.stage (state_of self.old) (state_of self.new) self.old.job }
         ensures rises { Rises (covers_of self.old.job) (covers_of self.new.job) (state_of self.old) (state_of self.new) }
-        ensures call { Made D.known D.cells D.arming (device_call result (state_of self.old) (state_of self.new) self.old.job) result self.old.disk self.new.disk }
     {
         cover_flights();
         states();

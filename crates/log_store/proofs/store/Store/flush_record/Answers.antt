@@ -292,8 +292,8 @@ returns-else-is_empty-clause-goes g c =
           (λ image is. replays_wider old.positions.head c.wrote.new.self.head s cells image (omega (arith, head_is)) (images tells image is));
     }
 
-pub returns-else-is_empty-clause-outcome : goal.returns-else-is_empty-clause-outcome
-returns-else-is_empty-clause-outcome g c =
+pub returns-else-is_empty-clause-smaller : goal.returns-else-is_empty-clause-smaller
+returns-else-is_empty-clause-smaller g c =
     let old = c.args.self.now in
     let sound = c.requires.store.sound in
     let s : State = state_of old in
@@ -314,22 +314,18 @@ returns-else-is_empty-clause-outcome g c =
       taken = old.taken;
       stage = Free;
     } in
-    let at : steps_at old.stage old.job s ≡ 3 = ap (λ (st : Stage). steps_at st old.job s) c.requires.stage in (
-      refl,
-      omega (
-        arith,
-        at,
-        rest_few old.job now,
-        flight.some,
-        flight.batch.within,
-        flight.batch.few,
-        ap length c.drop_front.ensures.list,
-        length-drop old.taken old.queue.items,
-        ap length c.put_all.ensures.images,
-        ap length c.images.ensures,
-        length-put_all-le c.images.result.now old.dirty.images,
-      ),
-      c.in-Ok.ensures.cause.never_falls,
+    let at : steps_at old.stage old.job s ≡ 3 = ap (λ (st : Stage). steps_at st old.job s) c.requires.stage in omega (
+      arith,
+      at,
+      rest_few old.job now,
+      flight.some,
+      flight.batch.within,
+      flight.batch.few,
+      ap length c.drop_front.ensures.list,
+      length-drop old.taken old.queue.items,
+      ap length c.put_all.ensures.images,
+      ap length c.images.ensures,
+      length-put_all-le c.images.result.now old.dirty.images,
     )
 
 pub returns-in-Err-clause-goes : goal.returns-in-Err-clause-goes

@@ -3,7 +3,7 @@ use Rattle.std.proofs.Common.{◌≡◌, ◌≤◌, ℕ}
 use Rattle.log_store.specs.Outcome.{CoverEndsPast, Rises, PositionsStay, covers_of, goal_of, steps_left}
 use Rattle.disk_model.specs.Disk.{IsAfterWrites}
 use Rattle.log_store.specs.declared.store.Job.TheVariants.{Home, WriteBack}
-use Rattle.log_store.specs.Actions.{GoesOn}
+use Rattle.log_store.specs.Actions.{GoesOn, HasNothing}
 use Rattle.log_store.specs.State.{state_of}
 use Rattle.log_store.specs.Steps.{Goes}
 use Rattle.log_store.proofs.store.Store.run.Given as goal
@@ -20,6 +20,7 @@ invariant-loop g l = record {
   arming : IsAfterWrites (g.D.Disk.arming l.fn.self.disk) (g.D.Disk.arming l.self.disk);
   steps : (n : ℕ) × GoesOn g.D.Disk.known g.D.Disk.cells g.D.Disk.sector_count g.D.Disk.arming g.D.Disk.fault_count n l.fn.self l.self;
   up : (fault : ℕ) → l.self.stage ≡ Down fault → l.fn.self.stage ≡ Down fault;
+  nothing : HasNothing l.fn.self.job (state_of l.fn.self) → l.fn.self.stage ≡ Free → l.self ≡ l.fn.self;
   down : (fault : ℕ) → l.fn.self.stage ≡ Down fault → l.self ≡ l.fn.self;
 }
 

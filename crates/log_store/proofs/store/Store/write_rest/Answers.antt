@@ -25,7 +25,6 @@ use Rattle.log_store.specs.declared.store.Job.TheVariants.{Nothing, WriteBack}
 use Rattle.log_store.specs.declared.fault.Progress.{Progress}
 use Rattle.log_store.specs.declared.fault.StoreFault.{StoreFault}
 use Rattle.log_store.specs.declared.fault.StoreFault.TheVariants.{WriteFault}
-use Rattle.log_store.specs.Calls.{Made, call_at, gathered, write}
 use Rattle.log_store.specs.Actions.{IsDoneBy, write_rest}
 use Rattle.std.proofs.Common.{refl}
 use Rattle.log_store.proofs.store.Store.write_rest.Goals as goal
@@ -130,34 +129,6 @@ rest_pieces ring head count part xs all now value left within is =
     ap (λ (l : List Sector). take (count - part) (drop part l)) value
     ∙ ap (λ (n : ℕ). take (count - n) (drop n xs)) left
     ∙ rest_range xs all count (ring - head % ring) (omega (arith, within)) is
-
--- at this stage the call is that write
-half_call : {D : Type 0} (known : Bool) (cells : D → List Cell) (arming : D → Arming) (result : Result Progress StoreFault) (stage : Stage) (job : Job) (s : State) (before after : D) → stage ≡ Half
-    → Made known cells arming (write (s.anchor + 1) (rest_part s.ring (item_of s))) result before after → Made known cells arming (call_at stage job s) result before after
-half_call known cells arming result stage job s before after is made = subst (λ (st : Stage). Made known cells arming (call_at st job s) result before after) (sym is) made
-
-pub returns-in-Ok-clause-call : goal.returns-in-Ok-clause-call
-returns-in-Ok-clause-call g c =
-    let old = c.args.self.now in
-    let s : State = state_of old in
-    let cells = g.D.Disk.cells old.disk in
-    let disk = c.write.new.self in
-    let fit : IsInFlight s old.sectors.items old.count × (old.ring - old.positions.head % old.ring < old.count) = subst (λ (st : Stage). StageFits st s old.sectors.items old.count) c.requires.stage c.requires.store.sound.stage in
-    let pieces_is = rest_pieces old.ring old.positions.head old.count c.straight-part.result old.sectors.items (encoded_record (item_of s)) c.deref.result.now c.deref.ensures.value c.straight-part.ensures.left fit.1 fit.0.encoded in
-    half_call g.D.Disk.known g.D.Disk.cells g.D.Disk.arming _ old.stage old.job s old.disk disk c.requires.stage
-    (λ tells. c.in-Ok.ensures.written tells ∙ ap (λ (l : List Sector). written (old.anchor + 1) l cells) pieces_is, c.in-Ok.ensures.arming)
-
-pub returns-in-Err-clause-call : goal.returns-in-Err-clause-call
-returns-in-Err-clause-call g c =
-    let old = c.args.self.now in
-    let s : State = state_of old in
-    let cells = g.D.Disk.cells old.disk in
-    let disk = c.write.new.self in
-    let fit : IsInFlight s old.sectors.items old.count × (old.ring - old.positions.head % old.ring < old.count) = subst (λ (st : Stage). StageFits st s old.sectors.items old.count) c.requires.stage c.requires.store.sound.stage in
-    let pieces_is = rest_pieces old.ring old.positions.head old.count c.straight-part.result old.sectors.items (encoded_record (item_of s)) c.deref.result.now c.deref.ensures.value c.straight-part.ensures.left fit.1 fit.0.encoded in
-    subst (λ (x : Store g.row.D.Denot). Made g.D.Disk.known g.D.Disk.cells g.D.Disk.arming (call_at old.stage old.job (gathered s (state_of x))) (Err WriteFault) old.disk x.disk) (sym c.go_down.ensures)
-    (half_call g.D.Disk.known g.D.Disk.cells g.D.Disk.arming (Err WriteFault) old.stage old.job s old.disk disk c.requires.stage
-    (λ tells. subst (λ (l : List Sector). IsPartlyWritten (old.anchor + 1) l cells (g.D.Disk.cells disk)) pieces_is (c.in-Err.ensures.failed tells), c.in-Err.ensures.arming))
 
 -- ---- what was done
 
