@@ -1,4 +1,5 @@
 pub mod Inodes
 pub mod Maps
+pub mod Told
 pub mod Flushes
 pub mod Bits

@@ -1,5 +1,5 @@
 -- The inodes of a group that are in core, as a finite map.
-use Rattle.std.specs.Prelude.{◌≡◌, ◌<◌, ℕ, true, false, List, Option, Some, IsSomeAnd, nat_eq, refl}
+use Rattle.std.specs.Prelude.{◌≡◌, ◌<◌, ℕ, Bool, true, false, List, Option, None, Some, IsSomeAnd, nat_eq, refl}
 use Rattle.std.specs.Map.{lookup}
 use Rattle.std.specs.Ordering.{nat_cmp}
 use Rattle.std.specs.FinMap as map
@@ -10,6 +10,7 @@ use Rattle.inode_cache.specs.declared.inode.Incore.{Incore}
 use Rattle.inode_cache.specs.declared.inode.Kept.{Kept}
 use Rattle.inode_cache.specs.Codes.{kept_code}
 use Rattle.inode_cache.specs.Inodes.{IsIncore}
+use Rattle.inode_cache.specs.Numbers.{has_number}
 
 -- The group, the uuid of the image, by its number in the group each inode that is in core, and for how many more there is room.
 pub record Cache : Type 0 where
@@ -30,6 +31,11 @@ cache_code =
 -- the inode of a number, where it is in core
 abbrev pub incore_at : Cache → ℕ → Option Kept
 incore_at cache agino = map.get cache.inodes agino
+
+-- whether it is in core and was changed since its buffer was written
+abbrev pub is_dirty : Option Kept → Bool
+is_dirty None = false
+is_dirty (Some kept) = kept.dirty
 
 -- it is in core, and nothing was changed since its buffer was written
 abbrev pub IsClean : Cache → ℕ → Type 0
@@ -52,3 +58,7 @@ without_inode agino cache spare = record { group = cache.group; uuid = cache.uui
 -- What is in core are inodes of the group that sectors can encode.
 abbrev pub AreInodes : List (ℕ × Kept) → Type 0
 AreInodes entries = (agino : ℕ) (kept : Kept) → lookup (nat_eq agino) entries ≡ Some kept → IsIncore kept.inode × (agino < GROUP_NUMBERS)
+
+-- A set has the numbers of which this is so: for those in core that they are there, for the dirty ones that they are dirty.
+abbrev pub HasNumbers : (Option Kept → Bool) → List (ℕ × Kept) → List ℕ → Type 0
+HasNumbers told entries set = (n : ℕ) → has_number set n ≡ told (lookup (nat_eq n) entries)

@@ -1,15 +1,16 @@
 //! The inodes of one group that are in core.
 
-ghost use Rattle.std.specs.Prelude.{◌≡◌, ◌≤◌, ◌<◌, ◌+◌, ◌*◌, ◌↔◌, ℕ, None, length, is_some, IsSome, IsSomeAnd, IsTrue, IsOk, OnOk, OnErr};
+ghost use Rattle.std.specs.Prelude.{◌≡◌, ◌≤◌, ◌<◌, ◌+◌, ◌*◌, ◌↔◌, ℕ, true, false, None, length, is_some, IfNone, IfSome, IsSome, IsSomeAnd, IsTrue, IsOk, OnOk, OnErr};
 ghost use Rattle.std.specs.FinMap as map;
 ghost use Rattle.life_bytes.specs.declared.sector.Sector.{Sector};
 ghost use Rattle.life_limits.specs.declared.TheConstants.{GROUP_NUMBERS, MAX_GROUPS};
 ghost use Rattle.inode_cache.specs.declared.inode.TheConstants.{CLUSTER_INODES};
 ghost use Rattle.inode_cache.specs.Inodes.{IsIncore};
-ghost use Rattle.inode_cache.specs.Caches.{IsClean, clean, dirty, incore_at, with_incore, without_inode};
+ghost use Rattle.inode_cache.specs.Caches.{IsClean, clean, dirty, incore_at, is_dirty, with_incore, without_inode};
 ghost use Rattle.inode_cache.specs.Flush.{AreFlushed, AreClusterSectors, AreUpToDate, IsFlushed, IsFlushedAt, flushed_bytes};
 
 use crate::inode::{CLUSTER_INODES, Incore, Kept, write_inode};
+use crate::number_set::NumberSet;
 use inode_core::Core;
 use life_bytes::Sector;
 use life_ports::NoMemory;
@@ -25,14 +26,17 @@ pub struct InodeCache {
     group: u32,
     uuid: [u8; 16],
     inodes: HashMap<u32, Kept>,
+    /// The numbers of those that are in core, and of the dirty ones among them.
+    in_core: NumberSet,
+    dirty: NumberSet,
 }
 
 impl Model for InodeCache {
-    ghost use Rattle.std.specs.Prelude.{◌<◌};
+    ghost use Rattle.std.specs.Prelude.{◌<◌, is_some};
     ghost use Rattle.std.specs.FinMap as map;
     ghost use Rattle.std.specs.HashMap.{spare};
     ghost use Rattle.life_limits.specs.declared.TheConstants.{MAX_GROUPS};
-    ghost use Rattle.inode_cache.specs.Caches.{AreInodes, Cache, cache_code};
+    ghost use Rattle.inode_cache.specs.Caches.{AreInodes, Cache, HasNumbers, cache_code, is_dirty};
 
     ghost Value = { Cache };
 
@@ -40,7 +44,8 @@ impl Model for InodeCache {
 
     ghost view = { λ c. record { group = c.group; uuid = c.uuid; inodes = map.from_entries c.inodes.entries; spare = spare c.inodes } };
 
-    ghost invariant = { λ c. AreInodes c.inodes.entries × (c.group < MAX_GROUPS) };
+    ghost invariant = { λ c. AreInodes c.inodes.entries × (c.group < MAX_GROUPS)
+        × HasNumbers is_some c.inodes.entries c.in_core × HasNumbers is_dirty c.inodes.entries c.dirty };
 }
 
 /// A cache without inodes, which takes no memory.
@@ -54,6 +59,8 @@ pub fn begin_cache(alloc: Global, group: u32, uuid: [u8; 16]) -> InodeCache
         group,
         uuid,
         inodes: HashMap::new(alloc),
+        in_core: NumberSet::new(),
+        dirty: NumberSet::new(),
     }
 }
 
@@ -84,6 +91,7 @@ impl InodeCache {
             dirty: false,
         };
         self.inodes.insert(agino, kept)?;
+        self.in_core.insert(agino);
         Ok(())
     }
 
@@ -123,6 +131,38 @@ impl InodeCache {
             dirty: true,
         };
         *self.inodes.get_mut(&agino).unwrap() = kept;
+        self.dirty.insert(agino);
+    }
+
+    /// Puts another core in the place of that of an inode in core, whose blocks stay. It is dirty from then on. It takes no
+    /// memory.
+    pub fn change_core(&mut self, agino: u32, core: Core)
+        requires inode { IsSomeAnd (incore_at self.old agino) (λ kept. IsIncore (record { core = core; blocks = kept.inode.blocks })) }
+        ensures { IsSomeAnd (incore_at self.old agino)
+            (λ kept. self.new ≡ with_incore agino (dirty (record { core = core; blocks = kept.inode.blocks })) self.old self.old.spare) }
+    {
+        let kept = self.inodes.get_mut(&agino).unwrap();
+        kept.inode.core = core;
+        kept.dirty = true;
+        self.dirty.insert(agino);
+    }
+
+    /// The least number from one on whose inode is in core.
+    pub fn first_in_core(&self, from: u32) -> Option<u32>
+        ensures found { IfSome result (λ n. (from ≤ n) × (is_some (incore_at self.now n) ≡ true)) }
+        ensures least { IfSome result (λ n. (k : ℕ) → from ≤ k → k < n → is_some (incore_at self.now k) ≡ false) }
+        ensures none { IfNone result ((k : ℕ) → from ≤ k → is_some (incore_at self.now k) ≡ false) }
+    {
+        self.in_core.first_from(from)
+    }
+
+    /// The least number from one on whose inode is in core and dirty.
+    pub fn first_dirty(&self, from: u32) -> Option<u32>
+        ensures found { IfSome result (λ n. (from ≤ n) × (is_dirty (incore_at self.now n) ≡ true)) }
+        ensures least { IfSome result (λ n. (k : ℕ) → from ≤ k → k < n → is_dirty (incore_at self.now k) ≡ false) }
+        ensures none { IfNone result ((k : ℕ) → from ≤ k → is_dirty (incore_at self.now k) ≡ false) }
+    {
+        self.dirty.first_from(from)
     }
 
     /// Copies an inode into its buffer, where it is in core and dirty, and makes it clean.
@@ -138,6 +178,7 @@ impl InodeCache {
         }
         write_inode(&kept.inode, self.group, agino, &self.uuid, into);
         kept.dirty = false;
+        self.dirty.remove(agino);
     }
 
     /// Copies the dirty inodes of a cluster into its buffers, which are the sectors of its 32 inodes, and makes them clean. The
@@ -162,5 +203,6 @@ impl InodeCache {
         ensures spare { self.old.spare ≤ self.new.spare }
     {
         let _ = self.inodes.remove(&agino);
+        self.in_core.remove(agino);
     }
 }

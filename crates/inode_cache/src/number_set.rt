@@ -1,13 +1,11 @@
 //! Sets of the numbers of a group's inodes, as those that are in core or dirty: the next one is found in order.
 
-ghost use Rattle.std.specs.Prelude.{◌≡◌, ◌≢◌, ◌≤◌, ◌<◌, ◌+◌, ◌*◌, ◌/◌, ℕ, true, false, length, IfNone, IfOk, IfSome};
+ghost use Rattle.std.specs.Prelude.{◌≡◌, ◌≢◌, ◌≤◌, ◌<◌, ◌+◌, ◌*◌, ◌/◌, ℕ, true, false, length, IfNone, IfSome};
 ghost use Rattle.std.specs.Int.{bit_at};
 ghost use Rattle.life_limits.specs.declared.TheConstants.{GROUP_NUMBERS};
 ghost use Rattle.inode_cache.specs.Numbers.{has_number};
 
 use life_limits::GROUP_NUMBERS;
-use life_ports::NoMemory;
-use std::alloc::Global;
 use std::marker::Model;
 
 /// Bits of a word.
@@ -19,7 +17,7 @@ const WORDS: u32 = GROUP_NUMBERS / WORD_BITS;
 /// A set of numbers that inodes of a group can have. It has a bit for each of them.
 #[derive(Drop)]
 pub struct NumberSet {
-    words: Vec<u64>,
+    words: [u64; WORDS as usize],
 }
 
 impl Model for NumberSet {
@@ -27,9 +25,9 @@ impl Model for NumberSet {
 
     ghost Value = { List ℕ };
 
-    ghost view = { λ s. s.words.items };
+    ghost view = { λ s. s.words };
 
-    ghost invariant = { λ s. length s.words.items ≡ 2048 };
+    ghost invariant = { λ s. length s.words ≡ 2048 };
 }
 
 /// The lowest bit of a word that is set, from a place on.
@@ -47,12 +45,13 @@ fn bit_from(word: u64, place: u32) -> Option<u32>
 }
 
 impl NumberSet {
-    /// The empty set.
-    pub fn new(alloc: Global) -> Result<NumberSet, NoMemory>
-        ensures { IfOk result (λ set. (n : ℕ) → has_number set n ≡ false) }
+    /// The empty set, which takes no memory.
+    pub fn new() -> NumberSet
+        ensures { (n : ℕ) → has_number result n ≡ false }
     {
-        let words = vec![in alloc; 0; WORDS as usize]?;
-        Ok(NumberSet { words })
+        NumberSet {
+            words: [0; WORDS as usize],
+        }
     }
 
     pub fn contains(&self, number: u32) -> bool

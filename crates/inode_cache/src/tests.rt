@@ -85,7 +85,7 @@ fn a_changed_inode_is_flushed(rt: HostRuntime) -> Result<(), Fail> {
 
 #[test]
 fn numbers_are_found_in_order(rt: HostRuntime) -> Result<(), Fail> {
-    let mut set = NumberSet::new(rt.alloc())?;
+    let mut set = NumberSet::new();
     assert_eq!(rt; set.first_from(0), None);
     for number in [192, 131_071, 255, 193] {
         set.insert(number);

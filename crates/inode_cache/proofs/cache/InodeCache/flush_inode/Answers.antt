@@ -1,16 +1,22 @@
-use Rattle.std.proofs.Common.{ap, refl, ◌∙◌}
-use Rattle.std.specs.Prelude.{nat_eq}
+use Rattle.std.proofs.Common.{◌≡◌, ℕ, Some, ap, refl, ◌∙◌}
+use Rattle.std.specs.Prelude.{is_some, nat_eq}
 use Rattle.std.specs.HashMap.{spare}
 use Rattle.std.specs.Map.{lookup}
 use Rattle.inode_cache.specs.declared.inode.Kept.{Kept}
-use Rattle.inode_cache.specs.Caches.{clean}
+use Rattle.inode_cache.specs.Caches.{clean, is_dirty}
 use Rattle.inode_cache.proofs.Maps.{seen, lent_none, lent_value, some_from, inodes_same, inodes_put}
+use Rattle.inode_cache.proofs.Told.{told_kept, told_put, told_same}
 use Rattle.inode_cache.proofs.Flushes.{none_flushed, kept_flushed, clean_again, none_buffer, clean_buffer, dirty_buffer}
 use Rattle.inode_cache.proofs.cache.InodeCache.flush_inode.Goals as goal
 
 pub invariant_of-self : goal.invariant_of-self
 invariant_of-self c =
-    (inodes_same c.self.inside.inodes.entries c.get_mut.follows.lender-at-none.entries (λ q. ap (λ m. lookup (nat_eq q) m.entries) c.get_mut.follows.holds-at-none) c.self.invariant.0, c.self.invariant.1)
+    let same : (q : ℕ) → lookup (nat_eq q) c.get_mut.follows.lender-at-none.entries ≡ lookup (nat_eq q) c.self.inside.inodes.entries = λ q. ap (λ m. lookup (nat_eq q) m.entries) c.get_mut.follows.holds-at-none in (
+      inodes_same c.self.inside.inodes.entries c.get_mut.follows.lender-at-none.entries same c.self.invariant.0,
+      c.self.invariant.1,
+      told_same is_some c.self.inside.inodes.entries c.get_mut.follows.lender-at-none.entries c.self.inside.in_core same c.self.invariant.2,
+      told_same is_dirty c.self.inside.inodes.entries c.get_mut.follows.lender-at-none.entries c.self.inside.dirty same c.self.invariant.3,
+    )
 
 pub returns-in_default-clause-buffer : goal.returns-in_default-clause-buffer
 returns-in_default-clause-buffer c =
@@ -25,7 +31,14 @@ pub invariant_of-self-then-not-kept : goal.invariant_of-self-then-not-kept
 invariant_of-self-then-not-kept c =
     let there = lent_value c.get_mut.result c.in-Some.kept _ c.in-Some.is c.get_mut.ensures.value in
     let is = c.self.invariant.0 c.args.agino c.in-Some.kept.now there in
-    (inodes_put c.self.inside.inodes.entries (c.get_mut.follows.lender c.in-Some.kept.now).entries c.args.agino c.in-Some.kept.now ((c.get_mut.follows.holds c.in-Some.kept.now).3 (some_from _ c.in-Some.kept.now there)).0 is.0 is.1 c.self.invariant.0, c.self.invariant.1)
+    let es = c.self.inside.inodes.entries in
+    let fs = (c.get_mut.follows.lender c.in-Some.kept.now).entries in
+    let same = ((c.get_mut.follows.holds c.in-Some.kept.now).3 (some_from _ c.in-Some.kept.now there)).0 in (
+      inodes_put es fs c.args.agino c.in-Some.kept.now same is.0 is.1 c.self.invariant.0,
+      c.self.invariant.1,
+      told_kept is_some es fs c.self.inside.in_core c.args.agino (Some c.in-Some.kept.now) c.self.invariant.2 same (ap is_some there),
+      told_kept is_dirty es fs c.self.inside.dirty c.args.agino (Some c.in-Some.kept.now) c.self.invariant.3 same (ap is_dirty there),
+    )
 
 pub returns-then-not-kept-clause-buffer : goal.returns-then-not-kept-clause-buffer
 returns-then-not-kept-clause-buffer c =
@@ -44,12 +57,22 @@ write_inode-requires-clause-inode c = (c.self.invariant.0 c.args.agino c.in-Some
 pub write_inode-requires-clause-agino_small : goal.write_inode-requires-clause-agino_small
 write_inode-requires-clause-agino_small c = (c.self.invariant.0 c.args.agino c.in-Some.kept.now (lent_value c.get_mut.result c.in-Some.kept _ c.in-Some.is c.get_mut.ensures.value)).1
 
+pub remove-requires : goal.remove-requires
+remove-requires c = (c.self.invariant.0 c.args.agino c.in-Some.kept.now (lent_value c.get_mut.result c.in-Some.kept _ c.in-Some.is c.get_mut.ensures.value)).1
+
 pub invariant_of-self-2 : goal.invariant_of-self-2
 invariant_of-self-2 c =
     let there = lent_value c.get_mut.result c.in-Some.kept _ c.in-Some.is c.get_mut.ensures.value in
     let is = c.self.invariant.0 c.args.agino c.in-Some.kept.now there in
     let new : Kept = clean c.in-Some.kept.now.inode in
-    (inodes_put c.self.inside.inodes.entries (c.get_mut.follows.lender new).entries c.args.agino new ((c.get_mut.follows.holds new).3 (some_from _ c.in-Some.kept.now there)).0 is.0 is.1 c.self.invariant.0, c.self.invariant.1)
+    let es = c.self.inside.inodes.entries in
+    let fs = (c.get_mut.follows.lender new).entries in
+    let same = ((c.get_mut.follows.holds new).3 (some_from _ c.in-Some.kept.now there)).0 in (
+      inodes_put es fs c.args.agino new same is.0 is.1 c.self.invariant.0,
+      c.self.invariant.1,
+      told_kept is_some es fs c.self.inside.in_core c.args.agino (Some new) c.self.invariant.2 same (ap is_some there),
+      told_put is_dirty es fs c.self.inside.dirty _ c.args.agino (Some new) c.self.invariant.3 same c.remove.ensures.here c.remove.ensures.others,
+    )
 
 pub returns-clause-buffer : goal.returns-clause-buffer
 returns-clause-buffer c =
