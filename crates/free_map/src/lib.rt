@@ -9,6 +9,3 @@ mod words;
 
 pub use laws::{bitmaps_are_the_sets, numbers_hold_their_bits};
 pub use map::{FreeMap, read_map};
-
-#[cfg(test)]
-mod tests;

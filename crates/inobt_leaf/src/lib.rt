@@ -16,6 +16,3 @@ pub use leaf::{Leaf, LeafFault};
 pub use masks::masks_change_by_one_bit;
 pub use reading::{PageFault, read_page};
 pub use writing::{write_empty_page, write_page};
-
-#[cfg(test)]
-mod tests;

@@ -12,6 +12,3 @@ pub use laws::whole_records;
 pub use read::read_record;
 pub use record::{LogRecord, RecordNumbers, record_sectors};
 pub use write::{fill_images, fill_record, record_bytes};
-
-#[cfg(test)]
-mod tests;

@@ -1,9 +1,12 @@
 ghost use Rattle.std.specs.Prelude.{◌≡◌, ◌≤◌, ◌<◌, ◌+◌, ◌^◌, IfOk, length};
 ghost use Rattle.log_record.specs.Encoding.{IsRecord};
 
-use super::*;
 use life_bytes::Sector;
 use life_ports::NoMemory;
+use log_record::{
+    Commit, Image, ImageList, LogRecord, fill_record, read_record, record_bytes, record_sectors,
+    whole_records,
+};
 use std::alloc::Global;
 use std::test::Fail;
 

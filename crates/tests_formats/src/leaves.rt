@@ -1,4 +1,7 @@
-use super::*;
+use inobt_leaf::{
+    ChunkRec, Leaf, LeafFault, PageFault, masks_change_by_one_bit, pages_tell_leaves, read_page,
+    write_empty_page, write_page,
+};
 use life_bytes::Sector;
 use std::test::Fail;
 

@@ -1,4 +1,4 @@
-use super::*;
+use free_map::{FreeMap, bitmaps_are_the_sets, read_map};
 use life_bytes::Sector;
 use std::test::Fail;
 

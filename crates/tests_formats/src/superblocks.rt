@@ -1,0 +1,47 @@
+use geometry::{
+    Damaged, Geometry, image_sectors, number, read_super, sector_of, split, word_at, write_super,
+};
+use life_bytes::Sector;
+
+#[test]
+fn numbers_and_places(rt: HostRuntime) {
+    assert_eq!(rt; number(1, 192), 131_264);
+    assert_eq!(rt; split(131_264), (1, 192));
+    let g = Geometry {
+        version: 1,
+        groups: 2,
+        blocks: 64,
+        ring: 256,
+        uuid: [7; 16],
+    };
+    assert_eq!(rt; image_sectors(&g), 1281);
+    assert_eq!(rt; sector_of(&g, 131_264), 704);
+    assert_eq!(rt; word_at(&g, 131_264), 704);
+}
+
+#[test]
+fn superblock_is_read_and_nothing_else(rt: HostRuntime) {
+    let g = Geometry {
+        version: 1,
+        groups: 1,
+        blocks: 64,
+        ring: 256,
+        uuid: [0, 1, 2, 3, 4, 5, 6, 7, 8, 9, 10, 11, 12, 13, 14, 15],
+    };
+    let mut sector = Sector { bytes: [0xee; 512] };
+    write_super(&g, &mut sector);
+    assert_eq!(rt;
+        &sector.bytes[..24],
+        b"LIFE\0\0\0\x01\0\0\0\x01\0\0\0\x40\0\0\x01\0\0\0\0\0".as_slice()
+    );
+    assert_eq!(rt; &sector.bytes[24..40], g.uuid.as_slice());
+    assert_eq!(rt; &sector.bytes[40..44], b"\x37\xd9\x89\xbc".as_slice());
+    assert_eq!(rt; &sector.bytes[44..], [0; 468].as_slice());
+    assert_eq!(rt; read_super(&sector), Ok(g));
+    let damaged = Err(Damaged { rule: 1, sector: 0 });
+    for at in [0, 7, 19, 20, 30, 42, 511] {
+        let mut other = sector;
+        other.bytes[at] ^= 1;
+        assert_eq!(rt; read_super(&other), damaged, "byte {at}");
+    }
+}
