@@ -7,3 +7,4 @@ pub mod Written
 pub mod Homes
 pub mod TornSectors
 pub mod Damages
+pub mod First

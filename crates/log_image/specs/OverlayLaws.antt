@@ -1,5 +1,5 @@
 -- Laws of sectors with images over them.
-use Rattle.std.specs.Prelude.{ℕ, ◌≡◌, ◌<◌, List, [], ◌∷◌, ◌++◌, length, Option, None, Some, ◌==◌, if◌then◌else◌, unwrap_or, slice_index_or, slice_set}
+use Rattle.std.specs.Prelude.{ℕ, ◌≡◌, ◌<◌, List, [], ◌∷◌, ◌++◌, zero, suc, length, take, Option, None, Some, ◌==◌, if◌then◌else◌, unwrap_or, slice_index_or, slice_set}
 use Rattle.std.specs.Option.{option_or}
 use Rattle.std.proofs.Common.{arith, refl, sym, ap, inl, inr, ◌∙◌, get_or-set_same, get_or-set_other, length-set}
 use Rattle.std.proofs.lemmas.Bool.{cases_eq, eq-eqb, ne_eqb, cond-true, cond-false}
@@ -83,3 +83,17 @@ overlaid-newest sectors xs ys same =
     let inside : k < length sectors = omega (arith, size_x) in
     get_or-overlaid sectors xs k d inside ∙ ap (λ (o : Option Sector). unwrap_or o (slice_index_or sectors k d)) (same k)
     ∙ sym (get_or-overlaid sectors ys k d inside))
+
+take-put : (count : ℕ) (sectors : List Sector) (at : ℕ) (piece : Sector) → take count (slice_set sectors at piece) ≡ slice_set (take count sectors) at piece
+take-put zero sectors at piece = refl
+take-put (suc count) [] at piece = refl
+take-put (suc count) (sector ∷ sectors) zero piece = refl
+take-put (suc count) (sector ∷ sectors) (suc at) piece = ap (λ (l : List Sector). sector ∷ l) (take-put count sectors at piece)
+
+-- the first sectors with images over them are the first of the sectors with these images over them
+pub take-overlaid : (count : ℕ) (sectors : List Sector) (images : List Image) → take count (overlaid sectors images) ≡ overlaid (take count sectors) images
+unfolding overlaid
+take-overlaid count sectors [] = refl
+take-overlaid count sectors (image ∷ images) =
+    take-overlaid count (slice_set sectors image.home image.sector) images
+    ∙ ap (λ (l : List Sector). overlaid l images) (take-put count sectors image.home image.sector)

@@ -4,7 +4,7 @@ use Rattle.log_record.specs.declared.image.Image.{Image}
 use Rattle.log_record.specs.declared.record.LogRecord.{LogRecord}
 use Rattle.log_image.specs.Log.{groups_part}
 use Rattle.log_image.specs.Overlay.{images_of, overlaid}
-use Rattle.log_image.specs.OverlayLaws.{length-overlaid, overlaid-none, overlaid-append, get_or-overlaid, newest-append, overlaid-newest}
+use Rattle.log_image.specs.OverlayLaws.{length-overlaid, overlaid-none, overlaid-append, get_or-overlaid, newest-append, overlaid-newest, take-overlaid}
 use Rattle.std.proofs.lemmas.List.{append-nil}
 use Rattle.log_image.proofs.overlay.overlays.Goals as goal
 
@@ -31,3 +31,6 @@ returns-clause-more c anchor image records item =
     ap (λ (l : List Image). overlaid (groups_part anchor image) l)
     (flat_map-append (λ (r : LogRecord). r.images) records (item ∷ []) ∙ ap (λ (l : List Image). images_of records ++ l) (append-nil item.images))
     ∙ overlaid-append (groups_part anchor image) (images_of records) item.images
+
+pub returns-clause-front : goal.returns-clause-front
+returns-clause-front c = take-overlaid
