@@ -1,5 +1,5 @@
 -- A rule that holds is broken nowhere, and an image has one first damage.
-use Rattle.std.proofs.Common.{◌≡◌, ℕ, ◌<◌, ◌≤◌, ◌⊎◌, List, inl, inr, refl, sym, ap, subst, ◌∙◌, arith}
+use Rattle.std.proofs.Common.{◌≡◌, ℕ, ◌<◌, ◌≤◌, ◌⊎◌, List, length, inl, inr, refl, sym, ap, subst, ◌∙◌, arith}
 use Rattle.std.proofs.lemmas.Bool.{cases_order}
 use Rattle.life_bytes.specs.declared.sector.Sector.{Sector}
 use Rattle.life_bytes.specs.Sectors.{zero_sector}
@@ -16,7 +16,7 @@ use Rattle.log_record.specs.declared.record.LogRecord.{LogRecord}
 use Rattle.log_image.specs.Anchor.{HasAnchor}
 use Rattle.log_image.specs.Log.{Log, HasLog, IsLogTo, record_end}
 use Rattle.log_image.specs.Damage.{AnchorBreaks, LogBreaks, LogBreaksFirst, EndsAt, IsLogDamage}
-use Rattle.whole_image.specs.Front.{ring_of, IsAnchorRight, IsLogRight}
+use Rattle.whole_image.specs.Front.{ring_of, IsSuperblockRight, IsAnchorRight, IsLogRight}
 use Rattle.whole_image.specs.Damage.{ImageRule, superblock, size, anchor, log, of_groups, image_rule_number, HasFrontAndLog, groups_of, ImageHolds, ImageBreaks, FirstDamage, IsSound}
 use Rattle.whole_image.proofs.Unique.{Lower, one_geometry, one_said, one_anchor, one_last}
 
@@ -257,3 +257,30 @@ pub of_log : Lower → (g : Geometry) (image : List Sector) (rule s : ℕ) → H
     → (known : ImageRule) × (rule ≡ image_rule_number known) × FirstDamage image known s
 of_log lower g image rule s has enough (inl (number, breaks)) = (anchor, number, anchor_damage lower g image s has enough breaks)
 of_log lower g image rule s has enough (inr (number, (position, next, at, breaks))) = (log, number, log_damage lower g image position next s has enough at breaks)
+
+-- ---- the superblock and the size
+
+superblock_first : (image : List Sector) (other : ImageRule) → image_rule_number other < 1 → ImageHolds image other
+superblock_first image superblock lt = absurd (omega arith)
+superblock_first image size lt = absurd (omega arith)
+superblock_first image anchor lt = absurd (omega arith)
+superblock_first image log lt = absurd (omega arith)
+superblock_first image (of_groups rule) lt = let low = five rule in absurd (omega arith)
+
+pub of_superblock : (image : List Sector) → ¬ IsSuperblockRight image → FirstDamage image superblock 0
+of_superblock image wrong = record { before = superblock_first image; broken = (refl, wrong); least = λ other b. omega arith }
+
+size_before : (g : Geometry) (image : List Sector) → HasSuperblock g image → (other : ImageRule) → image_rule_number other < 2 → ImageHolds image other
+size_before g image has superblock lt = (g, has)
+size_before g image has size lt = absurd (omega arith)
+size_before g image has anchor lt = absurd (omega arith)
+size_before g image has log lt = absurd (omega arith)
+size_before g image has (of_groups rule) lt = let low = five rule in absurd (omega arith)
+
+pub of_size : (g : Geometry) (image : List Sector) → HasSuperblock g image → ¬ IsLongEnough g image → FirstDamage image size (length image)
+of_size g image has short =
+    record {
+      before = size_before g image has;
+      broken = (g, has, refl, short);
+      least = λ other b. let at = b.2 in omega arith;
+    }

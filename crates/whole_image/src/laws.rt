@@ -1,6 +1,6 @@
 // Laws of the definitions. Each is the contract of a function that does nothing but call the laws that its own rests on.
 
-ghost use Rattle.std.specs.Prelude.{◌≡◌, ◌≤◌, ◌<◌, ◌^◌, ℕ, List};
+ghost use Rattle.std.specs.Prelude.{◌≡◌, ◌≤◌, ◌<◌, ◌^◌, ℕ, List, length};
 ghost use Rattle.life_bytes.specs.declared.sector.Sector.{Sector};
 ghost use Rattle.life_bytes.specs.Sectors.{zero_sector};
 ghost use Rattle.geometry.specs.declared.shape.Geometry.{Geometry};
@@ -18,8 +18,8 @@ ghost use Rattle.sound_image.specs.Superblocks.{HasSuperblock, IsLongEnough};
 ghost use Rattle.log_image.specs.Anchor.{HasAnchor};
 ghost use Rattle.log_image.specs.Damage.{IsLogDamage};
 ghost use Rattle.log_image.specs.Log.{AreBelow, Log, groups_part};
-ghost use Rattle.whole_image.specs.Front.{ring_of};
-ghost use Rattle.whole_image.specs.Damage.{ImageRule, superblock, of_groups, image_rule_number, FirstDamage, IsSound, HasFrontAndLog, groups_of};
+ghost use Rattle.whole_image.specs.Front.{IsSuperblockRight, ring_of};
+ghost use Rattle.whole_image.specs.Damage.{ImageRule, superblock, size, of_groups, image_rule_number, FirstDamage, IsSound, HasFrontAndLog, groups_of};
 ghost use Rattle.whole_image.specs.Represents.{Represents};
 
 use geometry::superblocks_tell_geometries;
@@ -27,11 +27,13 @@ use log_image::{logs, overlays};
 use log_record::whole_records;
 use sound_image::{sound_tables_are_well_formed, encoded_images_are_sound};
 
-/// A law: an image has at most one first damage, and none where it is sound. Where its superblock is right and no sector is missing, the first damage of its
-/// anchor and its log is the image's; where these are right too, that of its replayed groups is.
+/// A law: an image has at most one first damage, and none where it is sound. That its superblock is wrong is its first damage, and where that is right, that it
+/// has too few sectors. Where it has all, the first damage of its anchor and its log is the image's; where these are right too, that of its replayed groups is.
 pub fn one_first_damage()
     ensures one { (image : List Sector) (a b : ImageRule) (s t : ℕ) → FirstDamage image a s → FirstDamage image b t → (a ≡ b) × (s ≡ t) }
     ensures none { (image : List Sector) (a : ImageRule) (s : ℕ) → IsSound image → ¬ FirstDamage image a s }
+    ensures of_superblock { (image : List Sector) → ¬ IsSuperblockRight image → FirstDamage image superblock 0 }
+    ensures of_size { (g : Geometry) (image : List Sector) → HasSuperblock g image → ¬ IsLongEnough g image → FirstDamage image size (length image) }
     ensures of_log { (g : Geometry) (image : List Sector) (rule s : ℕ) → HasSuperblock g image → IsLongEnough g image → IsLogDamage image (anchor_of g) g.ring rule s
         → (known : ImageRule) × (rule ≡ image_rule_number known) × FirstDamage image known s }
     ensures of_groups { (g : Geometry) (image : List Sector) (said : Log) (rule : Rule) (s : ℕ) → HasFrontAndLog g image said

@@ -1,5 +1,5 @@
 use Rattle.whole_image.proofs.Unique.{Lower}
-use Rattle.whole_image.proofs.Damages.{OfGroups, one, none, of_log, raised}
+use Rattle.whole_image.proofs.Damages.{OfGroups, one, none, of_log, of_size, of_superblock, raised}
 use Rattle.whole_image.proofs.laws.one_first_damage.Goals as goal
 
 lower : goal.After-one_first_damage → Lower
@@ -19,3 +19,9 @@ returns-clause-of_log c = of_log (lower c)
 
 pub returns-clause-of_groups : goal.returns-clause-of_groups
 returns-clause-of_groups c = raised (lower c)
+
+pub returns-clause-of_superblock : goal.returns-clause-of_superblock
+returns-clause-of_superblock c = of_superblock
+
+pub returns-clause-of_size : goal.returns-clause-of_size
+returns-clause-of_size c = of_size
