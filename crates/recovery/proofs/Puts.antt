@@ -1,10 +1,10 @@
 -- Images that are written home one by one.
-use Rattle.std.proofs.Common.{◌≡◌, ◌⊎◌, ℕ, zero, suc, ◌+◌, ◌<◌, List, [], ◌∷◌, Some, set, get_or, refl, sym, ap, subst, inl, inr, ◌∙◌, arith}
+use Rattle.std.proofs.Common.{◌≡◌, ◌⊎◌, ℕ, zero, suc, ◌+◌, ◌<◌, List, [], ◌∷◌, Some, length, set, get_or, refl, sym, ap, subst, inl, inr, ◌∙◌, arith}
 use Rattle.std.specs.List.{All}
 use Rattle.std.proofs.lemmas.List.Elements.{All-head, All-tail}
 use Rattle.life_bytes.specs.declared.sector.Sector.{Sector}
-use Rattle.disk_model.specs.Disk.{Cell, HasOneImage, IsImage, as_read, written}
-use Rattle.disk_model.specs.DiskLaws.{IsTorn, IsTorn-from_image, IsImage-one, length-torn}
+use Rattle.disk_model.specs.Disk.{Arming, after_write, after_writes, Cell, HasOneImage, IsImage, as_read, written}
+use Rattle.disk_model.specs.DiskLaws.{after_writes-sum, IsTorn, IsTorn-from_image, IsImage-one, length-torn}
 use Rattle.log_record.specs.declared.image.Image.{Image}
 use Rattle.log_image.specs.Overlay.{newest, overlaid}
 use Rattle.log_batch.specs.Put.{KeysRise}
@@ -93,6 +93,10 @@ left_all low limit (entry ∷ entries) rise all =
       left_behind (entry.0 + 1) limit x (images_in entries) entries rest rise.1 (omega arith),
     )
 
+pub length_in : (entries : List (ℕ × Sector)) → length (images_in entries) ≡ length entries
+length_in [] = refl
+length_in (entry ∷ entries) = ap suc (length_in entries)
+
 -- ---- sectors with the images over them
 
 pub overlaid-nil : (sectors : List Sector) → overlaid sectors [] ≡ sectors
@@ -102,3 +106,13 @@ overlaid-nil sectors = refl
 pub overlaid-cons : (sectors : List Sector) (image : Image) (images : List Image) → overlaid sectors (image ∷ images) ≡ overlaid (set sectors image.home image.sector) images
 unfolding overlaid
 overlaid-cons sectors image images = refl
+
+-- ---- writes that were made
+
+-- one more write after some
+pub one_more_write : (made : ℕ) (first second third : Arming) → second ≡ after_writes made first → third ≡ after_write second → third ≡ after_writes (made + 1) first
+one_more_write made first second third some one = one ∙ ap after_write some ∙ sym (after_writes-sum made 1 first)
+
+-- and some more after some
+pub both_writes : (made more : ℕ) (first second third : Arming) → second ≡ after_writes made first → third ≡ after_writes more second → third ≡ after_writes (made + more) first
+both_writes made more first second third some rest = rest ∙ ap (after_writes more) some ∙ sym (after_writes-sum made more first)

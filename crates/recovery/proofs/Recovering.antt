@@ -1,10 +1,9 @@
 -- Images from the time in which a log is brought home.
 use Rattle.std.proofs.Common.{◌≡◌, ℕ, zero, suc, ◌+◌, ◌-◌, ◌<◌, ◌≤◌, ◌^◌, List, [], ◌∷◌, Some, None, length, take, drop, set, sym, ap, subst, inl, inr, ◌∙◌, arith, length-set}
 use Rattle.std.specs.List.{All}
-use Rattle.std.proofs.lemmas.List.{get_or-set_same, length-take, take-set-le, drop-set-lt}
+use Rattle.std.proofs.lemmas.List.{get_or-set_same, get_or-set_other, length-take, take-set-le, drop-set-lt}
 use Rattle.std.proofs.lemmas.List.Elements.{All-head, All-tail}
 use Rattle.std.proofs.lemmas.Option.{slice_get-get_or}
-use Rattle.std.proofs.Math.Seq.{take-set-lt}
 use Rattle.life_limits.specs.declared.TheConstants.{MOUNT_LIMIT}
 use Rattle.life_bytes.specs.declared.sector.Sector.{Sector}
 use Rattle.disk_model.specs.Disk.{Cell, HasOneImage, IsImage, as_read, written}
@@ -14,15 +13,16 @@ use Rattle.log_record.specs.declared.record.LogRecord.{LogRecord}
 use Rattle.log_image.specs.Anchor.{HasAnchor, anchor_sector}
 use Rattle.log_image.specs.Log.{AreBelow, IsGroupImage, IsLog, Log, empty_log, groups_part, replayed, ring_part}
 use Rattle.log_image.specs.Overlay.{images_of, newest, overlaid}
+use Rattle.log_image.specs.OverlayLaws.{take-overlaid}
 use Rattle.log_image.specs.Step.{IsPartlyHome}
 use Rattle.log_batch.specs.Newest.{IsNewestOf}
 use Rattle.log_batch.specs.NewestLaws.{newest-nil, newest_rest, none_some}
 use Rattle.recovery.specs.Found.{LogIsFound}
 use Rattle.recovery.specs.Put.{IsPartlyPut}
-use Rattle.recovery.specs.Replay.{BeginsAnew, IsBehind, IsEither, Recovers, groups_found}
+use Rattle.recovery.specs.Replay.{BeginsAnew, IsBehind, IsEither, IsOfReplay, LeavesOthers, Recovers, brought_home, groups_found}
 use Rattle.recovery.specs.declared.found.Found.{Found}
 use Rattle.recovery.specs.declared.start.Start.{Start}
-use Rattle.recovery.proofs.Puts.{overlaid-nil, overlaid-cons}
+use Rattle.recovery.proofs.Puts.{overlaid-nil}
 
 -- the laws of logs that are needed
 pub record Laws : Type 0 where
@@ -59,19 +59,9 @@ partly_home anchor records images base image newer homes is = record {
   ];
 }
 
-take_overlaid : (anchor : ℕ) (sectors : List Sector) (images : List Image) → All (IsGroupImage anchor) images
-    → take anchor (overlaid sectors images) ≡ overlaid (take anchor sectors) images
-take_overlaid anchor sectors [] all = ap (take anchor) (overlaid-nil sectors) ∙ sym (overlaid-nil (take anchor sectors))
-take_overlaid anchor sectors (image ∷ images) all =
-    let here = All-head (IsGroupImage anchor) image images all in
-    ap (take anchor) (overlaid-cons sectors image images)
-    ∙ take_overlaid anchor (set sectors image.home image.sector) images (All-tail (IsGroupImage anchor) image images all)
-    ∙ ap (λ (l : List Sector). overlaid l images) (take-set-lt anchor sectors image.home image.sector here.1)
-    ∙ sym (overlaid-cons (take anchor sectors) image images)
-
 -- ---- while images are written home
 
-pub recovers_partly : Laws → (base : List Sector) (anchor ring : ℕ) (found : Found) → LogIsFound base anchor ring found → All (IsGroupImage anchor) found.images
+recovers_partly : Laws → (base : List Sector) (anchor ring : ℕ) (found : Found) → LogIsFound base anchor ring found → All (IsGroupImage anchor) found.images
     → (image : List Sector) → IsPartlyPut found.images base image → Recovers anchor ring (groups_found anchor base found) found.next_commit image
 recovers_partly laws base anchor ring found is homes image partly =
     let home = partly_home anchor is.log.records found.images base image is.found_is.images homes partly in
@@ -81,6 +71,23 @@ recovers_partly laws base anchor ring found is homes image partly =
       groups_are = laws.replays base image anchor is.log.records (omega (arith, is.says.size)) home ∙ sym is.groups;
       number = sym is.found_is.next;
     }
+
+-- each home was changed or not, and nothing else was
+others_partly : (base : List Sector) (anchor : ℕ) (images : List Image) (image : List Sector) → IsPartlyPut images base image → LeavesOthers anchor images base image
+others_partly base anchor images image partly = record {
+  size = partly.size;
+  others = λ at d far none. elim (partly.each at d) [
+    | inl same ↦ same
+    | inr put ↦ absurd (none_some (sym none ∙ put))
+  ];
+}
+
+pub of_replay_partly : Laws → (base : List Sector) (anchor ring : ℕ) (found : Found) → LogIsFound base anchor ring found → All (IsGroupImage anchor) found.images
+    → (image : List Sector) → IsPartlyPut found.images base image → IsOfReplay anchor ring found base image
+of_replay_partly laws base anchor ring found is homes image partly = record {
+  recovers = recovers_partly laws base anchor ring found is homes image partly;
+  others = others_partly base anchor found.images image partly;
+}
 
 -- ---- once the anchor is written
 
@@ -120,7 +127,7 @@ anchored laws base anchor ring found mid start home behind fits =
         number = (omega (arith, behind.number, home.is.found_is.next, bounds.4), omega (arith, behind.number, home.is.found_is.next, bounds.5));
       },
       subst (λ (l : List Sector). AreBelow l start.position) (sym part) low,
-      take-set-le anchor mid anchor a (omega arith) ∙ ap (take anchor) home.reads ∙ take_overlaid anchor base found.images home.homes,
+      take-set-le anchor mid anchor a (omega arith) ∙ ap (take anchor) home.reads ∙ take-overlaid anchor base found.images,
       omega (arith, size, home.partly.size),
     )
 
@@ -138,7 +145,7 @@ recovers_anchored laws base anchor ring found mid start home behind fits =
     }
 
 -- either way
-pub recovers_either : Laws → (base : List Sector) (anchor ring : ℕ) (found : Found) (mid : List Sector) (start : Start) (at : ℕ) (sector : Sector)
+recovers_either : Laws → (base : List Sector) (anchor ring : ℕ) (found : Found) (mid : List Sector) (start : Start) (at : ℕ) (sector : Sector)
     → Home base anchor ring found mid → IsBehind ring found start → start.position < MOUNT_LIMIT
     → at ≡ anchor → sector ≡ anchor_sector start.position start.next_commit → (image : List Sector) → IsEither mid at sector image
     → Recovers anchor ring (groups_found anchor base found) found.next_commit image
@@ -150,6 +157,35 @@ recovers_either laws base anchor ring found mid start at sector home behind fits
     put ∙ ap (λ (k : ℕ). set mid k sector) same ∙ ap (λ (s : Sector). set mid anchor s) encoded in
     subst (λ (l : List Sector). Recovers anchor ring (groups_found anchor base found) found.next_commit l) (sym is)
     (recovers_anchored laws base anchor ring found mid start home behind fits)
+
+others_either : (base : List Sector) (anchor : ℕ) (images : List Image) (mid : List Sector) (at : ℕ) (sector : Sector) → IsPartlyPut images base mid → at ≡ anchor
+    → (image : List Sector) → IsEither mid at sector image → LeavesOthers anchor images base image
+others_either base anchor images mid at sector partly same image (inl old) =
+    subst (λ (l : List Sector). LeavesOthers anchor images base l) (sym old) (others_partly base anchor images mid partly)
+others_either base anchor images mid at sector partly same image (inr put) =
+    let before = others_partly base anchor images mid partly in
+    subst (λ (l : List Sector). LeavesOthers anchor images base l) (sym put)
+    (record {
+      size = length-set mid at sector ∙ before.size;
+      others = λ k d far none. get_or-set_other mid at k sector d (λ e. far (e ∙ same)) ∙ before.others k d far none;
+    })
+
+pub of_replay_either : Laws → (base : List Sector) (anchor ring : ℕ) (found : Found) (mid : List Sector) (start : Start) (at : ℕ) (sector : Sector)
+    → Home base anchor ring found mid → IsBehind ring found start → start.position < MOUNT_LIMIT
+    → at ≡ anchor → sector ≡ anchor_sector start.position start.next_commit → (image : List Sector) → IsEither mid at sector image
+    → IsOfReplay anchor ring found base image
+of_replay_either laws base anchor ring found mid start at sector home behind fits same encoded image either = record {
+  recovers = recovers_either laws base anchor ring found mid start at sector home behind fits same encoded image either;
+  others = others_either base anchor found.images mid at sector home.partly same image either;
+}
+
+-- what reads then give
+pub reads_home : (base : List Sector) (anchor ring : ℕ) (found : Found) (mid : List Sector) (start : Start) (at : ℕ) (sector : Sector) (new : List Sector)
+    → mid ≡ overlaid base found.images → at ≡ anchor → sector ≡ anchor_sector start.position start.next_commit → new ≡ set mid at sector
+    → new ≡ brought_home anchor base found start
+reads_home base anchor ring found mid start at sector new home same encoded put =
+    put ∙ ap (λ (k : ℕ). set mid k sector) same ∙ ap (λ (s : Sector). set mid anchor s) encoded
+    ∙ ap (λ (l : List Sector). set l anchor (anchor_sector start.position start.next_commit)) home
 
 pub begins_anew : Laws → (base : List Sector) (anchor ring : ℕ) (found : Found) (mid : List Sector) (start : Start) (at : ℕ) (sector : Sector) (cells : List Cell)
     → Home base anchor ring found mid → IsBehind ring found start → start.position < MOUNT_LIMIT

@@ -1,12 +1,13 @@
 -- What a replay makes of a disk.
-use Rattle.std.specs.Prelude.{ℕ, ◌≡◌, ◌≤◌, ◌+◌, ◌⊎◌, List, Result, IfErr, OnErr, slice_set}
+use Rattle.std.specs.Prelude.{ℕ, ◌≡◌, ◌≢◌, ◌≤◌, ◌+◌, ◌⊎◌, List, None, Result, IfErr, OnErr, length, slice_index_or, slice_set}
 use Rattle.life_limits.specs.declared.TheConstants.{MOUNT_LIMIT}
 use Rattle.life_bytes.specs.declared.sector.Sector.{Sector}
 use Rattle.life_ports.specs.Faults.{NeverFalls, Rose}
 use Rattle.disk_model.specs.Disk.{Cell, HasOneImage, as_read}
-use Rattle.log_image.specs.Anchor.{HasAnchor}
+use Rattle.log_record.specs.declared.image.Image.{Image}
+use Rattle.log_image.specs.Anchor.{HasAnchor, anchor_sector}
 use Rattle.log_image.specs.Log.{AreBelow, IsLog, Log, groups_part, replayed, ring_part}
-use Rattle.log_image.specs.Overlay.{overlaid}
+use Rattle.log_image.specs.Overlay.{newest, overlaid}
 use Rattle.recovery.specs.declared.found.Found.{Found}
 use Rattle.recovery.specs.declared.start.ReplayFault.{ReplayFault}
 use Rattle.recovery.specs.declared.start.ReplayFault.TheVariants.{WriteFault, FlushFault, PositionEnd}
@@ -22,6 +23,20 @@ pub record Recovers (anchor ring : ℕ) (groups : List Sector) (next : ℕ) (ima
   pub says : IsLog image anchor ring log
   pub groups_are : replayed anchor image log.records ≡ groups
   pub number : log.next ≡ next
+
+-- Nothing but the homes of some images and the anchor's sector was changed: each other sector is as before, behind the image too.
+pub record LeavesOthers (anchor : ℕ) (images : List Image) (old new : List Sector) : Type 0 where
+  pub size : length new ≡ length old
+  pub others : (at : ℕ) (d : Sector) → at ≢ anchor → newest at images ≡ None → slice_index_or new at d ≡ slice_index_or old at d
+
+-- what a stop within a replay leaves: an image that recovers to the same groups, with nothing else changed
+pub record IsOfReplay (anchor ring : ℕ) (found : Found) (old new : List Sector) : Type 0 where
+  pub recovers : Recovers anchor ring (groups_found anchor old found) found.next_commit new
+  pub others : LeavesOthers anchor found.images old new
+
+-- sectors with what was found brought home, and the anchor with which the log begins anew
+abbrev pub brought_home : ℕ → List Sector → Found → Start → List Sector
+brought_home anchor old found start = slice_set (overlaid old found.images) anchor (anchor_sector start.position start.next_commit)
 
 -- where the log begins anew: one turn of the ring behind its end, with the next commit number
 pub record IsBehind (ring : ℕ) (found : Found) (start : Start) : Type 0 where

@@ -1,12 +1,12 @@
 // The newest image of each sector that a log writes.
-ghost use Rattle.std.specs.Prelude.{◌≡◌, ◌<◌, List, [], IsTrue, OnOk, OnErr, option_copied};
+ghost use Rattle.std.specs.Prelude.{◌≡◌, ◌<◌, List, [], length, IsTrue, OnOk, OnErr, option_copied};
 ghost use Rattle.std.specs.List.{All};
 ghost use Rattle.life_bytes.specs.declared.sector.Sector.{Sector};
 ghost use Rattle.life_ports.specs.Faults.{HasCause};
-ghost use Rattle.disk_model.specs.Disk.{Elapses, HasOneImage, IsAfterWrites, IsImage, as_read};
+ghost use Rattle.disk_model.specs.Disk.{Elapses, HasOneImage, IsImage, as_read};
 ghost use Rattle.log_batch.specs.Put.{put, put_all};
 ghost use Rattle.log_image.specs.Overlay.{newest, overlaid};
-ghost use Rattle.recovery.specs.Put.{IsPartlyPut};
+ghost use Rattle.recovery.specs.Put.{IsPartlyPut, MakesWrites};
 
 use disk_model::Disk;
 use life_bytes::Sector;
@@ -37,7 +37,7 @@ impl Model for HomeImages {
 
 impl HomeImages {
     /// No images, which take no memory.
-    pub fn new(alloc: Global) -> HomeImages
+    pub(crate) fn new(alloc: Global) -> HomeImages
         ensures { result ≡ [] }
     {
         HomeImages {
@@ -53,7 +53,7 @@ impl HomeImages {
     }
 
     /// Puts an image in the place of its sector's older one, where there is one.
-    pub fn put(&mut self, image: &Image) -> Result<(), NoMemory>
+    pub(crate) fn put(&mut self, image: &Image) -> Result<(), NoMemory>
         ensures ok { OnOk result (self.new ≡ put image.now self.old) }
         ensures err { OnErr result (self.new ≡ self.old) }
     {
@@ -80,7 +80,7 @@ impl HomeImages {
         ensures time { IsTrue D.known → HasOneImage (D.cells disk.old) → Elapses (D.moment disk.old) (D.moment disk.new)
             (D.left_since disk.old) (D.left_since disk.new) (IsPartlyPut self.now (as_read (D.cells disk.old))) }
         ensures sectors { D.sector_count disk.new ≡ D.sector_count disk.old }
-        ensures arming { IsAfterWrites (D.arming disk.old) (D.arming disk.new) }
+        ensures writes { MakesWrites (length self.now) result (D.arming disk.old) (D.arming disk.new) }
         ensures cause { HasCause result (D.fault_count disk.old) (D.fault_count disk.new) }
     {
         for (home, sector) in &self.sectors {
