@@ -1,0 +1,3 @@
+pub mod Faults
+pub mod FirstSectors
+pub mod Inspected
