@@ -2,3 +2,4 @@ pub mod Lines
 pub mod Makings
 pub mod Openings
 pub mod Statuses
+pub mod Stepping

@@ -1,16 +1,17 @@
 -- What the words of a make and its end come to.
-use Rattle.std.proofs.Common.{◌≡◌, ◌⊎◌, inl, inr, ◌∷◌, [], ℕ, Bool, List, Option, None, Some, String, Global, codes, sym, ap, ◌∙◌, subst, arith}
+use Rattle.std.proofs.Common.{◌≡◌, inl, inr, ◌∷◌, [], ℕ, List, Option, None, Some, String, Global, IsSome, codes, slice_get, refl, sym, ap, ◌∙◌, subst, arith}
 use Rattle.std.proofs.lemmas.Fmt.{decimal_injective}
 use Rattle.std.specs.Fmt.{decimal}
 use Rattle.std.specs.Option.{MatchOption}
-use Rattle.disk_model.specs.Disk.{Cell}
-use Rattle.disk_model.specs.Images.{Given}
 use Rattle.geometry.specs.declared.shape.Geometry.{Geometry}
 use Rattle.thin_run.specs.declared.types.Status.{Status}
 use Rattle.thin_run.specs.declared.types.Status.TheVariants as status
+use Rattle.thin_run.specs.declared.types.MountRecord.{MountRecord}
+use Rattle.thin_run.specs.declared.types.Said.{Said}
 use Rattle.life_cli.specs.Form.{IsMake, IsMade, IsSteps, made_geometry}
-use Rattle.life_cli.specs.Making.{EndsMake, FailedInMake, IsGiven, IsMaking, Makes}
-use Rattle.life_cli.specs.Outcome.{Yields}
+use Rattle.life_cli.specs.Making.{EndsMake, RunsMake}
+use Rattle.life_cli.specs.Outcome.{IsEarly, IsGiven, Yields}
+use Rattle.life_cli.specs.Outside.{ImagesSeen}
 
 -- no words are in both forms
 pub one_form : (words : List (String Global)) (path other : List ℕ) (g : Geometry) → IsMake words path g → IsSteps words other → ⊥
@@ -56,64 +57,29 @@ own_status result ended x (inr (inr e)) sink memory is = absurd (memory (sym e �
 pub ends_make : (result ended x : Status) → EndsMake ended → Yields result ended → (status.SinkFault ≡ x → ⊥) → (status.NoMemory ≡ x → ⊥) → result ≡ x → EndsMake x
 ends_make result ended x ends yields sink memory is = subst EndsMake (own_status result ended x yields sink memory is) ends
 
-yields_on : (result ended expected : Status) → Yields result ended → Yields ended expected → Yields result expected
-yields_on result ended expected (inl e) due = subst (λ (s : Status). Yields s expected) (sym e) due
-yields_on result ended expected (inr other) due = inr other
+-- the same of what is told in another way
+pub RunsMake-told : {I D : Type 0} (seen : ImagesSeen I D) (path : List ℕ) (g : Geometry) (images images_after : I) (own : Status) (disk disk' : Option D)
+    (mounts mounts' : List MountRecord) (said said' : List Said) → disk' ≡ disk → mounts' ≡ mounts → said' ≡ said
+    → RunsMake seen path g images images_after own disk mounts said → RunsMake seen path g images images_after own disk' mounts' said'
+RunsMake-told seen path g images images_after own disk disk' mounts mounts' said said' d m s runs =
+    subst (λ (o : Option _). RunsMake seen path g images images_after own o mounts' said') (sym d)
+    (subst (λ (l : List MountRecord). RunsMake seen path g images images_after own disk l said') (sym m)
+    (subst (λ (l : List Said). RunsMake seen path g images images_after own disk mounts l) (sym s) runs))
 
-complete_on : (result ended : Status) → Yields result ended → (ended ≡ status.WriteFault) ⊎ ((ended ≡ status.FlushFault) ⊎ Yields ended status.Good)
-    → (result ≡ status.WriteFault) ⊎ ((result ≡ status.FlushFault) ⊎ Yields result status.Good)
-complete_on result ended (inl e) due =
-    subst (λ (s : Status). (s ≡ status.WriteFault) ⊎ ((s ≡ status.FlushFault) ⊎ Yields s status.Good)) (sym e) due
-complete_on result ended (inr other) due = inr (inr (inr other))
+-- the words name its path, and a disk that was created is handed back
+pub make_back : {I D : Type 0} (seen : ImagesSeen I D) (words : List (String Global)) (path : List ℕ) (g : Geometry) (images images_after : I) (own : Status)
+    (disk : Option D) (mounts : List MountRecord) (said : List Said) → IsMake words path g → RunsMake seen path g images images_after own disk mounts said
+    → MatchOption disk ((seen.given images_after ≡ seen.given images) × IsEarly mounts said) (λ _. IsGiven words (seen.given images) (seen.given images_after))
+make_back seen words path g images images_after own None mounts said is runs = (runs.makes.0, runs.early)
+make_back seen words path g images images_after own (Some d) mounts said is runs =
+    (path, ap (λ (l : List (List ℕ)). slice_get l 1) is.0, (runs.makes.0, inr runs.makes.1))
 
-making_on : (known : Bool) (g : Geometry) (cells : List Cell) (sectors before after : ℕ) (result ended : Status) → Yields result ended
-    → IsMaking known g cells sectors before after ended → IsMaking known g cells sectors before after result
-making_on known g cells sectors before after result ended yields making = record {
-  size = making.size;
-  made = λ is. making.made (own_status result ended status.Good yields (λ e. cc) (λ e. cc) is);
-  crash_safe = making.crash_safe;
-  write_fault = λ is. making.write_fault (own_status result ended status.WriteFault yields (λ e. cc) (λ e. cc) is);
-  flush_fault = λ is. making.flush_fault (own_status result ended status.FlushFault yields (λ e. cc) (λ e. cc) is);
-  read_back = λ is. making.read_back (own_status result ended status.FlushFault yields (λ e. cc) (λ e. cc) is);
-  complete = complete_on result ended yields making.complete;
-}
-
--- what was made stands when the output is written
-pub Makes-written : {D : Type 0} (known : Bool) (cells : D → List Cell) (sectors faults : D → ℕ) (path : List ℕ) (g : Geometry) (old new : List Given)
-    (disk disk' : Option D) (result ended : Status) → disk' ≡ disk → Yields result ended → Makes known cells sectors faults path g old new disk ended
-    → Makes known cells sectors faults path g old new disk' result
-Makes-written known cells sectors faults path g old new None disk' result ended same yields makes =
-    subst (λ o. Makes known cells sectors faults path g old new o result) (sym same) (makes.0, yields_on result ended status.OpenFault yields makes.1)
-Makes-written known cells sectors faults path g old new (Some d) disk' result ended same yields makes =
-    subst (λ o. Makes known cells sectors faults path g old new o result) (sym same)
-    (makes.0, makes.1, making_on known g (cells d) (sectors d) makes.0 (faults d) result ended yields makes.2)
-
--- it stands of the disk that is handed back
-pub Makes-on : {D : Type 0} (known : Bool) (cells : D → List Cell) (sectors faults : D → ℕ) (path : List ℕ) (g : Geometry) (old new : List Given)
-    (disk disk' : Option D) (ended : Status) → disk' ≡ disk → Makes known cells sectors faults path g old new disk ended
-    → Makes known cells sectors faults path g old new disk' ended
-Makes-on known cells sectors faults path g old new disk disk' ended same makes =
-    subst (λ o. Makes known cells sectors faults path g old new o ended) (sym same) makes
-
-not_open : (result x : Status) → Yields result status.OpenFault → (status.OpenFault ≡ x → ⊥) → (status.SinkFault ≡ x → ⊥) → (status.NoMemory ≡ x → ⊥) → result ≡ x → ⊥
-not_open result x yields opened sink memory is = opened (own_status result status.OpenFault x yields sink memory is)
-
--- a fault of the device is one of the disk that was created
-pub failed_write : {D : Type 0} (known : Bool) (cells : D → List Cell) (sectors faults : D → ℕ) (words : List (String Global)) (path : List ℕ) (g : Geometry)
-    (old new : List Given) (disk : Option D) (result : Status) → IsMake words path g → Makes known cells sectors faults path g old new disk result
-    → result ≡ status.WriteFault → FailedInMake faults words old new disk
-failed_write known cells sectors faults words path g old new None result make makes is = not_open result status.WriteFault makes.1 (λ e. cc) (λ e. cc) (λ e. cc) is
-failed_write known cells sectors faults words path g old new (Some d) result make makes is = (path, (g, make, (makes.0, makes.1, makes.2.write_fault is)))
-
-pub failed_flush : {D : Type 0} (known : Bool) (cells : D → List Cell) (sectors faults : D → ℕ) (words : List (String Global)) (path : List ℕ) (g : Geometry)
-    (old new : List Given) (disk : Option D) (result : Status) → IsMake words path g → Makes known cells sectors faults path g old new disk result
-    → result ≡ status.FlushFault → FailedInMake faults words old new disk
-failed_flush known cells sectors faults words path g old new None result make makes is = not_open result status.FlushFault makes.1 (λ e. cc) (λ e. cc) (λ e. cc) is
-failed_flush known cells sectors faults words path g old new (Some d) result make makes is = (path, (g, make, (makes.0, makes.1, makes.2.flush_fault is)))
-
--- a make hands back the disk that was created
-pub created_back : {D : Type 0} (known : Bool) (cells : D → List Cell) (sectors faults : D → ℕ) (words : List (String Global)) (path : List ℕ) (g : Geometry)
-    (old new : List Given) (disk : Option D) (result : Status) (Early : Type 0) → IsMake words path g → Early → Makes known cells sectors faults path g old new disk result
-    → MatchOption disk ((new ≡ old) × Early) (λ _. IsGiven words old new)
-created_back known cells sectors faults words path g old new None result Early make early makes = (makes.0, early)
-created_back known cells sectors faults words path g old new (Some d) result Early make early makes = (path, (makes.0, inr (g, make, makes.1)))
+-- one was created where it ended well
+pub make_disk : {I D : Type 0} (seen : ImagesSeen I D) (path : List ℕ) (g : Geometry) (images images_after : I) (own ended : Status) (disk : Option D)
+    (mounts : List MountRecord) (said : List Said) → RunsMake seen path g images images_after own disk mounts said → Yields ended own → ended ≡ status.Good
+    → IsSome disk
+make_disk seen path g images images_after own ended None mounts said runs yields good =
+    let well : own ≡ status.Good = own_status ended own status.Good yields (λ e. cc) (λ e. cc) good in
+    let not : status.OpenFault ≡ status.Good = own_status own status.OpenFault status.Good runs.makes.1 (λ e. cc) (λ e. cc) well in
+    absurd cc
+make_disk seen path g images images_after own ended (Some d) mounts said runs yields good = refl

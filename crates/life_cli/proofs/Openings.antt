@@ -1,36 +1,20 @@
 -- How a run begins: with a script, and with the disk that stands at a path.
-use Rattle.std.proofs.Common.{◌≡◌, ℕ, Bool, true, false, List, [], ◌∷◌, Option, Some, None, IsTrue, refl, sym, ap, ◌∙◌, subst}
+use Rattle.std.proofs.Common.{◌≡◌, ℕ, Bool, true, false, List, [], ◌∷◌, Option, Some, None, IsTrue, refl, ap, ◌∙◌, subst}
 use Rattle.std.specs.Option.{IfSome}
 use Rattle.std.specs.List.{AllByRecursion}
 use Rattle.life_bytes.specs.declared.sector.Sector.{Sector}
 use Rattle.disk_model.specs.Disk.{Cell, HasOneImage, as_read, settled_as}
 use Rattle.thin_run.specs.CrashSafe.{IsLeft, LeftWhereKnown}
 use Rattle.disk_model.specs.DiskLaws.{as_read-settled_as}
-use Rattle.thin_run.specs.declared.command.Command.{Command}
 use Rattle.thin_run.specs.declared.types.Said.{Said}
 use Rattle.thin_run.specs.declared.types.MountRecord.{MountRecord}
 use Rattle.thin_run.specs.declared.types.Status.{Status}
 use Rattle.thin_run.specs.declared.types.Status.TheVariants as status
-use Rattle.life_cli.specs.Outcome.{IsScript, Replied, RefusesScript, image_known}
+use Rattle.life_cli.specs.Outcome.{RefusesScript}
+use Rattle.life_cli.specs.Outside.{image_known}
 use Rattle.thin_run.specs.Outcome.{where_known, RepresentsWhereKnown, FitWhereKnown, GoesOnWhereKnown, IsLegalOver, IsLogged}
-use Rattle.life_cli.specs.Script.{commands_of, lines_of}
-use Rattle.thin_run.specs.Story.{unmounted}
 use Rattle.thin_run.specs.Table.{Table}
 use Rattle.thin_run.specs.Thin.{Represents, MountsFit, ring_of}
-
--- a script has some commands
-some_script : (script : Option (List ℕ)) → (commands : List Command) × IsScript script commands
-some_script None = ([], tt)
-some_script (Some bytes) = (commands_of (lines_of bytes), refl)
-
--- a run that answered no line answered those before it
-pub Replied-none : (script : Option (List ℕ)) (ended : Status) (said : List Said) (mounts : List MountRecord) → said ≡ [] → mounts ≡ []
-    → (ended ≡ status.Good → ⊥) → Replied script ended said mounts
-Replied-none script ended said mounts no_answer no_mount ill =
-    let some = some_script script in
-    subst (λ (s : List Said). Replied script ended s mounts) (sym no_answer)
-    (subst (λ (m : List MountRecord). Replied script ended [] m) (sym no_mount)
-    (some.0, some.1, (λ good. absurd (ill good)), ([], record { lines = refl; answers = refl; made = refl }, (unmounted, refl, refl))))
 
 -- a script that was refused did not end well
 pub RefusesScript-ill : (script : Option (List ℕ)) (before after : ℕ) (ended : Status) → RefusesScript script before after ended → ended ≡ status.Good → ⊥

@@ -1,14 +1,9 @@
 -- When each status comes.
-use Rattle.std.proofs.Common.{◌≡◌, ◌≤◌, ◌<◌, inl, inr, ◌++◌, ◌∷◌, [], ℕ, List, Option, None, Some, length, refl, sym, ◌∙◌, subst, arith}
-use Rattle.thin_run.specs.declared.types.Said.{Said}
-use Rattle.thin_run.specs.declared.types.MountRecord.{MountRecord}
+use Rattle.std.proofs.Common.{◌≡◌, ◌≤◌, ◌<◌, inl, inr, ℕ, List, Option, None, Some, length, refl, sym, ◌∙◌, subst, arith}
 use Rattle.thin_run.specs.declared.types.Status.{Status}
 use Rattle.thin_run.specs.declared.types.Status.TheVariants as status
-use Rattle.std.specs.Option.{MatchOption, IfSome}
 use Rattle.life_limits.specs.declared.TheConstants.{MAX_SCRIPT_BYTES}
-use Rattle.disk_model.specs.Images.{Given, attached}
-use Rattle.life_cli.specs.Outcome.{Yields, YieldsRead, Replied, EndsAs, WhereKnown, IsReadable, IsOutsideAt, CompletesAs, FaultsExactly, IsTooLongExactly}
-use Rattle.thin_run.specs.Outcome.{Caused}
+use Rattle.life_cli.specs.Outcome.{Yields, YieldsRead, EndsAs, WhereKnown, IsReadable, IsOutsideAt, CompletesAs, FaultsExactly, IsTooLongExactly}
 use Rattle.life_cli.specs.Script.{first_outside, lines_of}
 
 -- the status that was due comes, unless something failed
@@ -129,27 +124,3 @@ pub CompletesAs-from : (script : Option (List ℕ)) (a b c d : ℕ) (ended resul
     → WhereKnown script (λ bytes. IsReadable bytes → CompletesAs result)
 CompletesAs-from None a b c d ended result ends yields = tt
 CompletesAs-from (Some bytes) a b c d ended result ends yields = complete bytes a b c d ended result ends yields
-
-well : (result ended : Status) → Yields result ended → result ≡ status.Good → ended ≡ status.Good
-well result ended (inl e) good = sym e ∙ good
-well result ended (inr (inl e)) good =
-    let bad : status.SinkFault ≡ status.Good = sym e ∙ good in
-    absurd cc
-well result ended (inr (inr e)) good =
-    let bad : status.NoMemory ≡ status.Good = sym e ∙ good in
-    absurd cc
-
--- what was answered stays answered when the output is written
-pub Replied-written : (script : Option (List ℕ)) (ended result : Status) (said said' : List Said) (mounts mounts' : List MountRecord)
-    → Yields result ended → said' ≡ said → mounts' ≡ mounts → Replied script ended said mounts → Replied script result said' mounts'
-Replied-written script ended result said said' mounts mounts' yields same_said same_mounts replied =
-    subst (λ (s : List Said). Replied script result s mounts') (sym same_said)
-    (subst (λ (m : List MountRecord). Replied script result said m) (sym same_mounts)
-    (replied.0, replied.1, (λ good. replied.2 (well result ended yields good)), replied.3))
-
--- the causes of the answers, where a disk was given
-pub given_causes : {D : Type 0} (faults : D → ℕ) (disk : Option D) (Early : Type 0) (old new : List Given) (path : List ℕ) (said : List Said) (mounts : List MountRecord)
-    → MatchOption disk Early (λ d. (count : ℕ) × (new ≡ old ++ attached path count ∷ []) × Caused count (faults d) said mounts)
-    → IfSome disk (λ d. (count : ℕ) × (new ≡ old ++ attached path count ∷ []) × Caused count (faults d) said mounts)
-given_causes faults None Early old new path said mounts given = tt
-given_causes faults (Some d) Early old new path said mounts given = given

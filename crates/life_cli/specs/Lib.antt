@@ -4,5 +4,7 @@ pub mod Input
 pub mod Making
 pub mod Outcome
 pub mod Output
+pub mod Outside
 pub mod Script
+pub mod Steps
 pub mod Texts

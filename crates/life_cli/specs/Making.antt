@@ -1,11 +1,10 @@
 -- What the making of an image comes to.
-use Rattle.std.specs.Prelude.{◌≡◌, ◌+◌, ◌++◌, ◌⊎◌, ⊤, ℕ, Bool, IsTrue, List, [], ◌∷◌, Option, Result, Ok, Err, String}
+use Rattle.std.specs.Prelude.{◌≡◌, ◌+◌, ◌++◌, ◌⊎◌, ⊤, ℕ, Bool, IsTrue, List, [], ◌∷◌, Option, Result, Ok, Err}
 use Rattle.std.specs.Option.{MatchOption}
-use Rattle.std.specs.declared.alloc.Global.{Global}
 use Rattle.life_bytes.specs.declared.sector.Sector.{Sector}
 use Rattle.life_ports.specs.Faults.{Rose}
 use Rattle.disk_model.specs.Disk.{Cell, HasOneImage, IsImage, as_read}
-use Rattle.disk_model.specs.Images.{Given, attached, created}
+use Rattle.disk_model.specs.Images.{Given, created}
 use Rattle.geometry.specs.declared.shape.Geometry.{Geometry}
 use Rattle.geometry.specs.Places.{anchor_of}
 use Rattle.image_make.specs.declared.fault.MakeFault.{MakeFault}
@@ -14,8 +13,10 @@ use Rattle.image_make.specs.Empty.{AwaitsSuperblock}
 use Rattle.image_make.specs.Outcome.{IsBlankOrEmpty, IsEmptyImage}
 use Rattle.thin_run.specs.declared.types.Status.{Status}
 use Rattle.thin_run.specs.declared.types.Status.TheVariants as status
-use Rattle.life_cli.specs.Form.{IsMake, IsSteps}
-use Rattle.life_cli.specs.Outcome.{Yields}
+use Rattle.thin_run.specs.declared.types.MountRecord.{MountRecord}
+use Rattle.thin_run.specs.declared.types.Said.{Said}
+use Rattle.life_cli.specs.Outcome.{IsEarly, Yields}
+use Rattle.life_cli.specs.Outside.{ImagesSeen}
 
 -- sectors of an image
 abbrev pub sectors_of : Geometry → ℕ
@@ -57,13 +58,13 @@ Makes known cells sectors faults path g old new disk ended =
     MatchOption disk ((new ≡ old) × Yields ended status.OpenFault)
     (λ d. (count : ℕ) × (new ≡ old ++ created path count ∷ []) × IsMaking known g (cells d) (sectors d) count (faults d) ended)
 
--- the disk that was created in this call has failed in it
-abbrev pub FailedInMake : {D : Type 0} → (D → ℕ) → List (String Global) → List Given → List Given → Option D → Type 0
-FailedInMake faults words old new disk =
-    MatchOption disk ⊥ (λ d. (path : List ℕ) × ((g : Geometry) × IsMake words path g × ((count : ℕ) × (new ≡ old ++ created path count ∷ []) × Rose count (faults d))))
-
--- the disk that stands at the path was attached for `steps`, or one was created there for `make`
-abbrev pub IsGiven : List (String Global) → List Given → List Given → Type 0
-IsGiven words old new =
-    (path : List ℕ) × ((count : ℕ) × ((IsSteps words path × (new ≡ old ++ attached path count ∷ []))
-    ⊎ ((g : Geometry) × IsMake words path g × (new ≡ old ++ created path count ∷ []))))
+-- A run that makes an image of this geometry at a path: the images before and after it, the run's own status, the disk that is handed back, and what it tells.
+pub record RunsMake {I D : Type 0} (seen : ImagesSeen I D) (path : List ℕ) (g : Geometry) (images images_after : I)
+    (own : Status) (disk : Option D) (mounts : List MountRecord) (said : List Said) : Type 0 where
+  -- it ends in no other way
+  pub ends : EndsMake own
+  pub open_fault : own ≡ status.OpenFault → Rose (seen.faults images) (seen.faults images_after)
+  -- A disk was created and made, or none could be created. What stands there where it ended well is the image without a file.
+  pub makes : Makes seen.known seen.cells seen.sectors seen.disk_faults path g (seen.given images) (seen.given images_after) disk own
+  -- it gives no answers
+  pub early : IsEarly mounts said

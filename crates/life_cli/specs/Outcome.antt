@@ -1,14 +1,12 @@
 -- What a whole run comes to.
-use Rattle.std.specs.Prelude.{◌≡◌, ◌<◌, ◌≤◌, ◌⊎◌, ⊤, ℕ, Bool, true, false, List, [], Option, None, Some, String, length, take}
+use Rattle.std.specs.Prelude.{◌≡◌, ◌<◌, ◌≤◌, ◌⊎◌, ◌++◌, ◌∷◌, ⊤, ℕ, List, [], Option, None, Some, IsNone, String, length, map, slice_get, string_bytes}
 use Rattle.std.specs.Io.KnownBytes.{Appends}
 use Rattle.std.specs.declared.alloc.Global.{Global}
 use Rattle.life_limits.specs.declared.TheConstants.{MAX_SCRIPT_BYTES}
-use Rattle.life_bytes.specs.declared.sector.Sector.{Sector}
 use Rattle.life_ports.specs.Faults.{Rose}
 use Rattle.life_cli.specs.Output.{AppendsPrefix}
 use Rattle.life_cli.specs.Script.{lines_of, commands_of, first_outside}
-use Rattle.thin_run.specs.Outcome.{AnswersAll}
-use Rattle.life_cli.specs.Form.{IsNoForm}
+use Rattle.disk_model.specs.Images.{Given, attached, created}
 use Rattle.life_cli.specs.Texts.{output_of, status_line}
 use Rattle.thin_run.specs.declared.command.Command.{Command}
 use Rattle.thin_run.specs.declared.types.MountRecord.{MountRecord}
@@ -24,12 +22,6 @@ Yields ended expected = (ended ≡ expected) ⊎ ((ended ≡ status.SinkFault) �
 abbrev pub IsScript : Option (List ℕ) → List Command → Type 0
 IsScript None commands = ⊤
 IsScript (Some bytes) commands = commands ≡ commands_of (lines_of bytes)
-
--- the lines of the script were answered in order: all of them where the run ended well
-abbrev pub Replied : Option (List ℕ) → Status → List Said → List MountRecord → Type 0
-Replied script ended said mounts =
-    (commands : List Command) × IsScript script commands × (ended ≡ status.Good → length said ≡ length commands)
-    × AnswersAll (take (length said) commands) said mounts
 
 -- what was written of a run with a status of its own: the whole output, or a prefix of it where the sink failed; for running out of memory maybe the last line alone
 abbrev pub IsWritten : Option (List ℕ) → Option (List ℕ) → (Status → List ℕ) → Status → Status → Type 0
@@ -87,20 +79,43 @@ EndsAs script source_before source_after images_before images_after status.Write
 EndsAs script source_before source_after images_before images_after status.FlushFault = ⊥
 EndsAs script source_before source_after images_before images_after status.NoMemory = ⊤
 
--- an image that stands at a path, of a kind of disk that tells what it holds
-abbrev pub image_known : Bool → Option (List Sector) → Option (List Sector)
-image_known true image = image
-image_known false image = None
-
 -- what a run leaves that read no script, or was given no disk
 pub record IsEarly (mounts : List MountRecord) (said : List Said) : Type 0 where
   pub no_mount : mounts ≡ []
   pub no_answer : said ≡ []
 
--- usage comes exactly where the words are in no form
-pub record IsUsage (words : List (String Global)) (ended : Status) : Type 0 where
-  pub named : ended ≡ status.Usage → IsNoForm words
-  pub exact : IsNoForm words → Yields ended status.Usage
+-- A run had a status of its own, with what it promises. It ended so unless the sink failed or memory lacked, and what was written tells that status.
+pub record EndsWith (promise : Status → Type 0) (lines : Status → List ℕ) (before after : Option (List ℕ)) (ended : Status) : Type 0 where
+  pub own : Status
+  pub promised : promise own
+  pub yields : Yields ended own
+  pub written : IsWritten before after lines own ended
+
+-- what a run promises whose words are in no form
+pub record RunsNothing {I D : Type 0} (images images_after : I) (own : Status) (disk : Option D) (mounts : List MountRecord) (said : List Said) : Type 0 where
+  pub usage : own ≡ status.Usage
+  pub untouched : images_after ≡ images
+  pub no_disk : IsNone disk
+  pub early : IsEarly mounts said
+
+-- the script itself is why there was no run
+abbrev pub IsScriptRefusal : Status → Type 0
+IsScriptRefusal status.Good = ⊥
+IsScriptRefusal status.Usage = ⊥
+IsScriptRefusal (status.ScriptFault line rule) = ⊤
+IsScriptRefusal status.ScriptTooLong = ⊤
+IsScriptRefusal status.OpenFault = ⊥
+IsScriptRefusal status.SourceFault = ⊤
+IsScriptRefusal status.SinkFault = ⊥
+IsScriptRefusal status.WriteFault = ⊥
+IsScriptRefusal status.FlushFault = ⊥
+IsScriptRefusal status.NoMemory = ⊥
+
+-- where a disk was given, it was one, at the path that the words name
+abbrev pub IsGiven : List (String Global) → List Given → List Given → Type 0
+IsGiven words old new =
+    (path : List ℕ) × (slice_get (map string_bytes words) 1 ≡ Some path)
+    × ((count : ℕ) × ((new ≡ old ++ attached path count ∷ []) ⊎ (new ≡ old ++ created path count ∷ [])))
 
 -- the status is this one, unless the source or the sink failed or memory lacked
 abbrev pub YieldsRead : Status → Status → Type 0

@@ -32,7 +32,7 @@ pub(crate) fn ended_early<D>(alloc: Global, status: Status) -> Ended<D>
 }
 
 /// The same run, ended so.
-fn with_status<D>(ended: Ended<D>, status: Status) -> Ended<D>
+pub(crate) fn with_status<D>(ended: Ended<D>, status: Status) -> Ended<D>
     ensures { result ≡ record ended { status = status } }
 {
     let Ended {

@@ -11,6 +11,7 @@ mod input;
 mod making;
 mod output;
 mod script;
+mod steps;
 #[cfg(test)]
 mod tests;
 mod texts;

@@ -1,13 +1,11 @@
 // The making of an image at a path.
 
-ghost use Rattle.std.specs.Prelude.{◌≡◌, ◌≤◌, IfSome, IsSome, IsTrue, replicate};
+ghost use Rattle.std.specs.Prelude.{◌≡◌, IfSome, IsSome, IsTrue, replicate};
 ghost use Rattle.life_bytes.specs.Sectors.{zero_sector};
-ghost use Rattle.life_ports.specs.Faults.{Rose};
 ghost use Rattle.disk_model.specs.Disk.{settled_as};
 ghost use Rattle.geometry.specs.Shape.{IsGeometry};
-ghost use Rattle.life_cli.specs.Making.{EndsMake, IsMaking, Makes, make_status, sectors_of};
+ghost use Rattle.life_cli.specs.Making.{EndsMake, IsMaking, RunsMake, make_status, sectors_of};
 ghost use Rattle.life_cli.specs.Outcome.{IsEarly};
-ghost use Rattle.thin_run.specs.declared.types.Status.TheVariants as status;
 
 use crate::ending::ended_early;
 use disk_model::{Disk, Images};
@@ -47,20 +45,24 @@ fn make_on<D: Disk>(alloc: Global, mut disk: D, g: &Geometry) -> Ended<D>
     }
 }
 
-/// Creates a disk at a path, and makes an image on it.
-pub(crate) fn run_make<I: Images>(
+/// Creates a disk at a path, and makes an image on it. The disk that was given is handed back.
+pub fn run_make<I: Images>(
     alloc: Global,
     path: &str,
     g: &Geometry,
     images: &mut I,
 ) -> Ended<I::Disk>
     requires { IsGeometry g.now }
-    ensures makes { Makes I.Disk.known I.Disk.cells I.Disk.sector_count I.Disk.fault_count path.now g.now (I.given images.old) (I.given images.new)
-        result.disk result.status }
-    ensures early { IsEarly result.mounts.items result.said.items }
-    ensures ends { EndsMake result.status }
-    ensures open_fault { result.status ≡ status.OpenFault → Rose (I.fault_count images.old) (I.fault_count images.new) }
-    ensures never_falls { I.fault_count images.old ≤ I.fault_count images.new }
+    ensures { RunsMake (record {
+      given = I.given;
+      faults = I.fault_count;
+      image_at = I.image_at;
+      known = I.Disk.known;
+      cells = I.Disk.cells;
+      sectors = I.Disk.sector_count;
+      disk_faults = I.Disk.fault_count;
+    })
+        path.now g.now images.old images.new result.status result.disk result.mounts.items result.said.items }
 {
     match images.create(path, image_sectors(g)) {
         Ok(disk) => make_on(alloc, disk, g),

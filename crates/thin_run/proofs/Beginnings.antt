@@ -1,14 +1,13 @@
 -- What a mount's disk holds as it begins, and what is left of it at the end.
-use Rattle.std.proofs.Common.{◌≡◌, ◌≤◌, ◌+◌, ◌-◌, ◌^◌, ◌<◌, ℕ, Bool, true≢false, false, List, [], ◌∷◌, Option, Some, None, is_some, length, drop, map, vec_len, refl, sym, ap, ◌∙◌, subst, arith}
+use Rattle.std.proofs.Common.{◌≡◌, ◌≤◌, ◌+◌, ◌^◌, ◌<◌, ℕ, true≢false, false, List, [], Option, Some, None, is_some, length, drop, map, vec_len, sym, ap, ◌∙◌, subst, arith}
 use Rattle.std.specs.List.{All}
 use Rattle.std.proofs.lemmas.List.{nil_from_length, length-drop}
 use Rattle.life_bytes.specs.declared.sector.Sector.{Sector}
-use Rattle.disk_model.specs.Disk.{Cell, IsImage, HasOneImage, as_read, flushed}
+use Rattle.disk_model.specs.Disk.{Cell, IsImage, as_read, flushed}
 use Rattle.disk_model.specs.DiskLaws.{HasOneImage-flushed, as_read-flushed, IsImage-one, length-as_read}
-use Rattle.thin_image.specs.Replay.{IsBehind, IsThinUpTo, ring_part}
+use Rattle.thin_image.specs.Replay.{IsBehind, ring_part}
 use Rattle.thin_run.specs.declared.mount.Mount.{Mount}
 use Rattle.thin_run.specs.declared.types.Entry.{Entry}
-use Rattle.thin_run.specs.declared.types.MountRecord.{MountRecord}
 use Rattle.thin_run.specs.Changes.{After, changes, unheld}
 use Rattle.thin_run.specs.Ending.{stories_of}
 use Rattle.thin_run.specs.Fresh.{IsFresh}
@@ -16,7 +15,7 @@ use Rattle.thin_run.specs.Log.{LogState}
 use Rattle.thin_run.specs.Run.{DiskHolds}
 use Rattle.thin_run.specs.Standing.{IsUp, HoldsBy, Holds}
 use Rattle.thin_run.specs.Table.{Table, key_at}
-use Rattle.thin_run.specs.Thin.{Origin, Begins, Represents, RepresentsAt, ring_of, table_of}
+use Rattle.thin_run.specs.Thin.{Origin, Begins, Represents, RepresentsAt}
 use Rattle.thin_run.specs.CrashSafe.{IsPrefix, IsLeft}
 use Rattle.thin_run.proofs.Tables.{unheld-table_of}
 

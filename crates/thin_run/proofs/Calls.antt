@@ -1,5 +1,5 @@
 -- What the calls of a mount mean to its table.
-use Rattle.std.proofs.Common.{◌≡◌, ℕ, Bool, true, false, List, Option, None, Some, is_some, Result, Ok, Err, slice_set, slice_get, refl, sym, ap, ◌∙◌}
+use Rattle.std.proofs.Common.{◌≡◌, ◌+◌, ℕ, vec_len, Bool, true, false, List, Option, None, Some, is_some, Result, Ok, Err, slice_set, slice_get, refl, sym, ap, ◌∙◌}
 use Rattle.std.specs.Option.{option_map}
 use Rattle.std.specs.Result.{IfOk}
 use Rattle.std.proofs.lemmas.List.{map-set}
@@ -8,8 +8,10 @@ use Rattle.thin_run.specs.declared.types.Reply.{Reply}
 use Rattle.thin_run.specs.declared.types.Reply.TheVariants as reply
 use Rattle.thin_run.specs.declared.types.Call.TheVariants.{Create}
 use Rattle.thin_run.specs.declared.types.Event.TheVariants.{Called}
-use Rattle.thin_run.specs.Mount.{Creates, LeadsTable, use_of}
-use Rattle.thin_run.specs.Story.{FaultState, ReplyCause}
+use Rattle.thin_run.specs.declared.mount.Mount.{Mount}
+use Rattle.thin_run.specs.Log.{LogReply, LogState}
+use Rattle.thin_run.specs.Mount.{Creates, LeadsTable, faults_of, log_of, use_of}
+use Rattle.thin_run.specs.Story.{ReplyCause}
 use Rattle.thin_run.specs.Table.{Table, Row, made_row}
 
 -- two facts on a value that is there, as one
@@ -48,13 +50,22 @@ Creates-table group old reply.FlushFault new h t same = absurd h
 Creates-table group old reply.LogEnd new h t same = absurd h
 Creates-table group old (reply.Down fault) new h t same = absurd h
 
+-- so many changes have no record, of a log that is down or up as before
+faults_are : (old new : Mount) (count pending : ℕ) → new.down ≡ old.down → vec_len new.pending ≡ pending
+    → faults_of new count ≡ record (faults_of old count) { pending = pending }
+faults_are old new count pending down some =
+    ap (λ (d : Option ℕ). record { count = count; down = d; pending = vec_len new.pending }) down
+    ∙ ap (λ (n : ℕ). record { count = count; down = old.down; pending = n }) some
+
 -- a create makes no call of the disk
-pub Creates-quiet : (old : List Bool) (answer : Reply) (new : List Bool) (before after : FaultState) → after ≡ before → Creates old answer new
-    → ReplyCause before answer after
-Creates-quiet old (reply.Made key) new before after same h = same
-Creates-quiet old reply.NoInodes new before after same h = same
-Creates-quiet old (reply.Covered changes) new before after same h = absurd h
-Creates-quiet old reply.WriteFault new before after same h = absurd h
-Creates-quiet old reply.FlushFault new before after same h = absurd h
-Creates-quiet old reply.LogEnd new before after same h = absurd h
-Creates-quiet old (reply.Down fault) new before after same h = absurd h
+pub Creates-cause : (old new : Mount) (count : ℕ) (answer : Reply) → new.down ≡ old.down → Creates old.in_use answer new.in_use
+    → LogReply old.ring (log_of old) answer (log_of new) → ReplyCause (faults_of old count) answer (faults_of new count)
+Creates-cause old new count (reply.Made key) down h log =
+    faults_are old new count (vec_len old.pending + 1) down (ap (λ (l : LogState). l.pending) log)
+Creates-cause old new count reply.NoInodes down h log =
+    faults_are old new count (vec_len old.pending) down (ap (λ (l : LogState). l.pending) log)
+Creates-cause old new count (reply.Covered changes) down h log = absurd h
+Creates-cause old new count reply.WriteFault down h log = absurd h
+Creates-cause old new count reply.FlushFault down h log = absurd h
+Creates-cause old new count reply.LogEnd down h log = absurd h
+Creates-cause old new count (reply.Down fault) down h log = absurd h

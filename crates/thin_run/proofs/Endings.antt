@@ -1,5 +1,5 @@
 -- What a run leaves, once its last line was answered.
-use Rattle.std.proofs.Common.{◌≡◌, ◌≤◌, ℕ, Bool, true, false, List, Option, Some, None, is_some, IsTrue, refl, sym, ap, ◌∙◌, subst}
+use Rattle.std.proofs.Common.{◌≡◌, ◌≤◌, ℕ, Bool, true, false, List, [], Option, Some, None, is_some, IsTrue, length, take, refl, sym, ap, ◌∙◌, subst, arith}
 use Rattle.std.specs.List.{AllByRecursion}
 use Rattle.std.proofs.lemmas.List.{append-nil}
 use Rattle.life_bytes.specs.declared.sector.Sector.{Sector}
@@ -8,9 +8,12 @@ use Rattle.thin_run.specs.declared.runner.Run.{Run}
 use Rattle.thin_run.specs.declared.command.Command.{Command}
 use Rattle.thin_run.specs.declared.types.MountRecord.{MountRecord}
 use Rattle.thin_run.specs.Ending.{stories_of}
-use Rattle.thin_run.specs.Outcome.{all_entries, where_known, RepresentsWhereKnown, GoesOnWhereKnown, IsLegalOver, IsLogged, IsFirst, Caused}
-use Rattle.thin_run.specs.Run.{FitsDisk, HaveHistory, entries_of, fault_state}
-use Rattle.thin_run.specs.Story.{Told}
+use Rattle.thin_run.specs.Outcome.{all_entries, where_known, RepresentsWhereKnown, GoesOnWhereKnown, IsLegalOver, IsLogged, IsFirst, IsLast, AnswersLines}
+use Rattle.thin_run.specs.Run.{FitsDisk, HaveHistory, answer_state, entries_of, fault_state}
+use Rattle.thin_run.specs.Story.{Told, faults_from, unmounted}
+use Rattle.thin_run.specs.declared.types.Said.{Said}
+use Rattle.thin_run.specs.declared.types.Status.{Status}
+use Rattle.thin_run.specs.declared.types.Status.TheVariants as status
 use Rattle.thin_run.specs.Thin.{Origin, Begins, ring_of}
 use Rattle.thin_run.specs.Log.{LogHistory, log_from}
 use Rattle.thin_run.specs.Mount.{log_of}
@@ -61,18 +64,47 @@ pub stories_of-first : (o : Origin) (mount : Option Mount) → HaveHistory o mou
 stories_of-first o None has = tt
 stories_of-first o (Some m) has = (record { kept = has.kept; freed = has.freed; froms = m.froms_count; each = m.froms_each }, tt)
 
--- each answer has its cause
-pub IsWalk-caused : (commands : List Command) (before count after : ℕ) (run : Run) (story : List Told) (mounts : List MountRecord) → mounts ≡ stories_of run.mount
-    → IsWalk commands before count run story → count ≤ after → Caused before after run.said.items mounts
-IsWalk-caused commands before count after run story mounts same walk within = (
-  commands,
-  (
-    story,
-    record {
-      lines = walk.known.lines;
-      answers = walk.known.answers;
-      made = walk.known.made ∙ sym (ap all_entries same ∙ all_entries-stories_of run.mount);
-    },
-    (fault_state run.mount count, walk.causes, within),
-  ),
-)
+IsLast-stories_of : (mount : Option Mount) → IsLast (answer_state mount) (stories_of mount)
+IsLast-stories_of None = refl
+IsLast-stories_of (Some m) = refl
+
+-- each line has its answer, and each answer its cause
+pub IsWalk-answers : (commands : List Command) (before count after : ℕ) (ended : Status) (run : Run) (story : List Told) (mounts : List MountRecord)
+    → mounts ≡ stories_of run.mount → IsWalk (take (length run.said.items) commands) before count run story → count ≤ after
+    → (ended ≡ status.Good → length run.said.items ≡ length commands) → (ended ≡ status.Good → count ≡ after)
+    → AnswersLines commands before after ended run.said.items mounts
+IsWalk-answers commands before count after ended run story mounts same walk within whole last = record {
+  story = story;
+  told = record {
+    lines = walk.known.lines;
+    answers = walk.known.answers;
+    made = walk.known.made ∙ sym (ap all_entries same ∙ all_entries-stories_of run.mount);
+  };
+  last = answer_state run.mount;
+  answers = walk.answers;
+  up = subst (λ (all : List MountRecord). IsLast (answer_state run.mount) all) (sym same) (IsLast-stories_of run.mount);
+  faults = fault_state run.mount count;
+  causes = walk.causes;
+  counted = within;
+  whole = whole;
+  last_count = last;
+}
+
+-- a run that answered no line
+pub no-answers : (commands : List Command) (count : ℕ) (ended : Status) (said : List Said) (mounts : List MountRecord) → said ≡ [] → mounts ≡ []
+    → (ended ≡ status.Good → ⊥) → AnswersLines commands count count ended said mounts
+no-answers commands count ended said mounts unsaid unmade ill =
+    subst (λ (s : List Said). AnswersLines commands count count ended s mounts) (sym unsaid)
+    (subst (λ (m : List MountRecord). AnswersLines commands count count ended [] m) (sym unmade)
+    (record {
+      story = [];
+      told = record { lines = refl; answers = refl; made = refl };
+      last = unmounted;
+      answers = refl;
+      up = refl;
+      faults = faults_from count;
+      causes = refl;
+      counted = omega arith;
+      whole = λ good. absurd (ill good);
+      last_count = λ good. absurd (ill good);
+    }))

@@ -8,7 +8,7 @@ use Rattle.thin_run.specs.declared.types.Said.TheVariants.{Of, Line}
 use Rattle.thin_run.specs.declared.types.LineReply.TheVariants as line
 use Rattle.thin_run.specs.declared.command.Command.TheVariants as command
 use Rattle.thin_run.specs.Fresh.{IsFresh}
-use Rattle.thin_run.specs.Log.{LogStep, LogHistory, log_from}
+use Rattle.thin_run.specs.Log.{LogState, LogStep, LogHistory, log_from}
 use Rattle.thin_run.specs.Mount.{IsCall, log_of}
 use Rattle.thin_run.specs.Run.{HasHistory, AnswersAs, ComesUp}
 use Rattle.thin_run.specs.Table.{Legal, LegalHistory}
@@ -74,7 +74,7 @@ AnswersAs-fresh sectors o m before after fresh risen (Some other) up = absurd (t
 AnswersAs-fresh sectors o m before after fresh risen None up = record {
   entries = fresh.entries;
   answer = (line.Mounted 0 0, refl, refl, (refl, refl, ap (λ (es : List Entry). record { up = true; entries = length es }) fresh.entries));
-  cause = (risen, fresh.down);
+  cause = (risen, fresh.down, ap (λ (log : LogState). log.pending) fresh.log);
   histories = λ p some has. absurd (true≢false (sym some));
 }
 

@@ -1,29 +1,26 @@
 -- What a mount's disk holds goes on by each call.
-use Rattle.std.proofs.Common.{◌≡◌, ◌≤◌, ◌<◌, ◌+◌, ◌-◌, ◌*◌, ◌^◌, ◌⊎◌, ◌==◌, if◌then◌else◌, true, false, ℕ, zero, suc, Bool, List, [], ◌∷◌, ◌++◌, Option, Some, None, option_to_list, length, take, drop, get_or, map, set, vec_len, refl, sym, ap, ◌∙◌, subst, inl, inr, arith, length-append}
+use Rattle.std.proofs.Common.{◌≡◌, ◌≤◌, ◌<◌, ◌+◌, ◌-◌, ◌^◌, ◌==◌, if◌then◌else◌, true, false, ℕ, zero, suc, Bool, List, [], ◌∷◌, ◌++◌, Option, Some, None, option_to_list, length, take, drop, get_or, map, set, vec_len, refl, sym, ap, ◌∙◌, subst, inl, inr, arith, length-append}
 use Rattle.std.specs.List.{All, fold, filter_map, sum_by}
 use Rattle.std.proofs.Math.Dec.{eqb-suc-zero}
 use Rattle.std.proofs.Math.Seq.{get_or-append_seam, take-append_seam}
 use Rattle.std.proofs.Math.ListN.{drop_of_length-le}
 use Rattle.std.proofs.lemmas.Bool.{cases_lt}
-use Rattle.std.proofs.lemmas.List.{map-append, length-map, take_all, take-append-le, drop-append-le, length-drop, length-take-le, length-set, get_or_append_left, append-nil, nil_from_length}
+use Rattle.std.proofs.lemmas.List.{map-append, length-map, take-append-le, drop-append-le, length-drop, length-take-le, length-set, get_or_append_left, append-nil, nil_from_length}
 use Rattle.std.proofs.lemmas.List.Elements.{All-push, All-map, filter_map-append}
 use Rattle.std.proofs.lemmas.List.Sums.{fold-append, sum_by-append}
 use Rattle.life_bytes.specs.declared.sector.Sector.{Sector}
 use Rattle.disk_model.specs.Disk.{Cell, IsImage, HasOneImage, as_read, flushed, written, IsPartlyWritten}
-use Rattle.disk_model.specs.DiskLaws.{IsTorn, length-torn, IsTorn-from_one_image, IsImage-partly_written, IsImage-as_read, IsImage-one, HasOneImage-flushed, as_read-flushed, length-as_read}
+use Rattle.disk_model.specs.DiskLaws.{IsTorn, length-torn, IsTorn-from_one_image, IsImage-partly_written, IsImage-as_read, HasOneImage-flushed, as_read-flushed, length-as_read}
 use Rattle.log_record.specs.declared.image.Image.{Image}
 use Rattle.log_record.specs.declared.record.LogRecord.{LogRecord}
 use Rattle.log_record.specs.Encoding.{IsRecord, FitsFields, sector_count, encoded_record}
 use Rattle.thin_image.specs.Inodes.{AreInodes, IsUse, inode_image, with_used}
 use Rattle.thin_image.specs.NextRecord.{IsNextRecord, IsPartlyOver, SameAt, HasSector}
-use Rattle.thin_image.specs.Replay.{IsThinUpTo, IsHistoryUpTo, IsLog, IsBehind, homes, ring_part, overlaid, replayed, next_commit, put_home}
+use Rattle.thin_image.specs.Replay.{IsHistoryUpTo, IsLog, IsBehind, homes, ring_part, overlaid, replayed, next_commit, put_home}
 use Rattle.thin_run.specs.declared.mount.Mount.{Mount}
 use Rattle.thin_run.specs.declared.types.Key.{Key}
 use Rattle.thin_run.specs.declared.types.Reply.{Reply}
 use Rattle.thin_run.specs.declared.types.Reply.TheVariants as reply
-use Rattle.thin_run.specs.declared.types.Call.{Call}
-use Rattle.thin_run.specs.declared.types.Event.{Event}
-use Rattle.thin_run.specs.declared.types.Event.TheVariants.{Called}
 use Rattle.thin_run.specs.declared.types.Entry.{Entry}
 use Rattle.thin_run.specs.declared.types.MountRecord.{MountRecord}
 use Rattle.thin_run.specs.Changes.{After, changes, key_of, key_made, unheld, with_key}
@@ -32,7 +29,7 @@ use Rattle.thin_run.specs.Mount.{log_of, faults_of, next_record, LeavesStory}
 use Rattle.thin_run.specs.Standing.{CanEncode, Records, Moves, IsUp, IsDown, HoldsBy, Holds}
 use Rattle.thin_run.specs.Story.{FaultState, ReplyCause}
 use Rattle.thin_run.specs.Table.{Table, key_at}
-use Rattle.thin_run.specs.Thin.{RepresentsAt, RowsOf, table_of}
+use Rattle.thin_run.specs.Thin.{RepresentsAt, table_of}
 use Rattle.thin_run.specs.CrashSafe.{IsPrefix}
 use Rattle.thin_run.proofs.Homes.{length-encoded}
 use Rattle.thin_run.proofs.Tables.{After-all, fold-table_of}

@@ -1,5 +1,5 @@
 -- The table after changes, and the flags of which it is.
-use Rattle.std.proofs.Common.{◌≡◌, ◌≤◌, ◌+◌, ◌-◌, ◌++◌, ℕ, Bool, true, false, if◌then◌else◌, List, [], ◌∷◌, Option, Some, None, length, take, drop, map, set, slice_set, refl, sym, ap, ◌∙◌, arith}
+use Rattle.std.proofs.Common.{◌≡◌, ◌+◌, ◌-◌, ℕ, Bool, true, false, if◌then◌else◌, List, [], ◌∷◌, Some, None, length, take, drop, map, slice_set, refl, sym, ap, ◌∙◌, arith}
 use Rattle.std.specs.List.{fold}
 use Rattle.std.proofs.lemmas.List.Sums.{fold-append}
 use Rattle.std.proofs.lemmas.List.{map-set, take-append-drop, take_all}
@@ -7,7 +7,7 @@ use Rattle.thin_image.specs.Inodes.{with_used}
 use Rattle.thin_run.specs.declared.types.Key.{Key}
 use Rattle.thin_run.specs.declared.types.Entry.{Entry}
 use Rattle.thin_run.specs.Changes.{After, changes, kept_row, unheld, with_key}
-use Rattle.thin_run.specs.Table.{Table, Row, key_at}
+use Rattle.thin_run.specs.Table.{Table, key_at}
 use Rattle.thin_run.specs.Thin.{table_of}
 
 -- nobody holds an inode of flags

@@ -1,8 +1,8 @@
 -- A disk over which a write of a record may have been cut short, sector by sector.
-use Rattle.std.proofs.Common.{◌≡◌, ◌≤◌, ◌<◌, ◌+◌, ◌-◌, ◌*◌, ◌%◌, ◌⊎◌, ℕ, zero, suc, List, [], ◌∷◌, ◌++◌, length, take, drop, get_or, map, refl, sym, ap, ◌∙◌, subst, inl, inr, arith, length-append}
+use Rattle.std.proofs.Common.{◌≡◌, ◌≤◌, ◌<◌, ◌+◌, ◌-◌, ◌%◌, ◌⊎◌, ℕ, zero, suc, List, [], ◌∷◌, ◌++◌, length, take, drop, get_or, refl, sym, ap, ◌∙◌, subst, inl, inr, arith, length-append}
 use Rattle.std.proofs.Math.Nat.{add-mod_left, mod-eq_of_lt}
 use Rattle.std.proofs.lemmas.Bool.{cases_lt}
-use Rattle.std.proofs.lemmas.List.{get_or-drop, get_or-take, length-drop, length-take-le, get_or_append_left, get_or-append-add}
+use Rattle.std.proofs.lemmas.List.{get_or-drop, length-drop, length-take-le, get_or_append_left, get_or-append-add}
 use Rattle.std.proofs.lemmas.List.FromFn.{get_or-map-range_with_len}
 use Rattle.life_bytes.specs.declared.sector.Sector.{Sector}
 use Rattle.disk_model.specs.Disk.{Cell, as_read, written}
@@ -10,7 +10,7 @@ use Rattle.disk_model.specs.DiskLaws.{IsTorn, length-torn, length-as_read, as_re
 use Rattle.log_record.specs.declared.record.LogRecord.{LogRecord}
 use Rattle.log_record.specs.Encoding.{record_sector, sector_count, encoded_record}
 use Rattle.log_record.specs.Whole.{at_place}
-use Rattle.thin_image.specs.NextRecord.{IsPartlyOver, SameAt, HasSector}
+use Rattle.thin_image.specs.NextRecord.{IsPartlyOver, HasSector}
 use Rattle.thin_image.specs.Replay.{homes, ring_part}
 use Rattle.thin_run.proofs.Homes.{length-encoded}
 

@@ -1,5 +1,5 @@
 -- A run goes on by each line.
-use Rattle.std.proofs.Common.{◌≡◌, ◌++◌, ℕ, Bool, true, false, true≢false, List, [], ◌∷◌, Option, Some, None, is_some, IsTrue, Result, Ok, Err, is_err, option_to_list, length, refl, sym, ap, ◌∙◌, subst}
+use Rattle.std.proofs.Common.{◌≡◌, ◌++◌, ℕ, Bool, true, false, true≢false, List, [], ◌∷◌, Option, Some, None, is_some, IsTrue, Result, Ok, Err, is_err, option_to_list, length, vec_len, refl, sym, ap, ◌∙◌, subst}
 use Rattle.std.specs.List.{filter_map}
 use Rattle.std.specs.Result.{OnOk, OnErr}
 use Rattle.std.proofs.lemmas.List.{map-append}
@@ -13,7 +13,7 @@ use Rattle.thin_run.specs.declared.types.Entry.{Entry}
 use Rattle.thin_run.specs.Log.{LogState, LogHistory, log_from}
 use Rattle.thin_run.specs.Mount.{LeavesStory, log_of}
 use Rattle.thin_run.specs.Run.{ComesUp, LeaveStory, HasHistory, HaveHistory, entries_of, answer_state, fault_state}
-use Rattle.thin_run.specs.Story.{Told, IsStory, Answers, AnswersLine, AnswerState, Causes, SaidCause, FaultState, unmounted}
+use Rattle.thin_run.specs.Story.{Told, IsStory, Answers, AnswersLine, AnswerState, Causes, SaidCause, FaultState, faults_from, unmounted}
 use Rattle.thin_run.specs.Table.{LegalHistory}
 use Rattle.thin_run.specs.Thin.{Origin, Begins, MountFits, MountsFit}
 use Rattle.thin_run.specs.Walk.{Goes, KeepsReads, IsWalk, IsWalkOver}
@@ -59,7 +59,7 @@ IsWalk-goes commands before middle after old new story command said made walk go
     record {
       known = record { lines = told_all.lines; answers = told_all.answers ∙ sym goes.said; made = told_all.made ∙ sym goes.answers.entries };
       answers = Steps-push (λ s (one : Told) t. AnswersLine s one.command one.said one.made t) unmounted story (answer_state old.mount) known (answer_state new.mount) walk.answers goes.answers.answer;
-      causes = Steps-push (λ s (one : Told) t. SaidCause s one.said one.made t) (record { count = before; down = None }) story (fault_state old.mount middle) known (fault_state new.mount after) walk.causes goes.answers.cause;
+      causes = Steps-push (λ s (one : Told) t. SaidCause s one.said one.made t) (faults_from before) story (fault_state old.mount middle) known (fault_state new.mount after) walk.causes goes.answers.cause;
     }
 
 -- the mount that is up goes on from what it began with
@@ -117,7 +117,9 @@ fault_state-left : (old new : Option Mount) (count : ℕ) → LeaveStory old new
 fault_state-left None None count left = refl
 fault_state-left None (Some new) count left = absurd left
 fault_state-left (Some old) None count left = absurd left
-fault_state-left (Some old) (Some new) count left = ap (λ (d : Option ℕ). record { count = count; down = d }) left.down
+fault_state-left (Some old) (Some new) count left =
+    ap (λ (d : Option ℕ). record { count = count; down = d; pending = vec_len new.pending }) left.down
+    ∙ ap (λ (log : LogState). record { count = count; down = old.down; pending = log.pending }) left.log
 
 is_some-left : (old new : Option Mount) → LeaveStory old new → is_some new ≡ is_some old
 is_some-left None None left = refl
@@ -131,7 +133,7 @@ pub IsWalk-left : (commands : List Command) (before after : ℕ) (old new : Run)
 IsWalk-left commands before after old new story left same walk = record {
   known = record { lines = walk.known.lines; answers = walk.known.answers ∙ sym same; made = walk.known.made ∙ sym (entries_of-left old.mount new.mount left) };
   answers = subst (λ (s : AnswerState). Answers unmounted story s) (sym (answer_state-left old.mount new.mount left)) walk.answers;
-  causes = subst (λ (s : FaultState). Causes (record { count = before; down = None }) story s) (sym (fault_state-left old.mount new.mount after left)) walk.causes;
+  causes = subst (λ (s : FaultState). Causes (faults_from before) story s) (sym (fault_state-left old.mount new.mount after left)) walk.causes;
 }
 
 pub IsWalkOver-left : (known : Bool) (image now then : List Sector) (old new : Run) → LeaveStory old.mount new.mount → new.said.items ≡ old.said.items

@@ -1,5 +1,5 @@
 -- The changes of a history, and the table after the first of them.
-use Rattle.std.specs.Prelude.{◌-◌, ℕ, List, Option, None, Some, length, map, take, slice_set, filter_map}
+use Rattle.std.specs.Prelude.{◌-◌, ℕ, List, Option, None, Some, map, take, slice_set, filter_map}
 use Rattle.std.specs.List.{fold}
 use Rattle.std.specs.Option.{option_map}
 use Rattle.thin_run.specs.declared.types.Key.{Key}

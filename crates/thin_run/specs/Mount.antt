@@ -49,9 +49,9 @@ IsSyncReply reply.FlushFault = ⊤
 IsSyncReply reply.LogEnd = ⊤
 IsSyncReply (reply.Down fault) = ⊤
 
--- the count of faults, and what it was after the one that took the log down
+-- the count of faults, what it was after the one that took the log down, and how many changes no record has
 abbrev pub faults_of : Mount → ℕ → FaultState
-faults_of m count = record { count = count; down = m.down }
+faults_of m count = record { count = count; down = m.down; pending = vec_len m.pending }
 
 -- which inodes are in use
 abbrev pub use_of : Table → List Bool

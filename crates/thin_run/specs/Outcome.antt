@@ -1,9 +1,9 @@
 -- What the lines of a whole run come to, over the disk that it was given.
-use Rattle.std.specs.Prelude.{◌≡◌, ◌≤◌, ◌⊎◌, ⊤, ℕ, Bool, true, false, List, [], ◌∷◌, Option, None, Some, length, flat_map}
+use Rattle.std.specs.Prelude.{◌≡◌, ◌≤◌, ◌⊎◌, ⊤, ℕ, Bool, true, false, List, [], ◌∷◌, Option, None, Some, length, flat_map, take}
 use Rattle.life_bytes.specs.declared.sector.Sector.{Sector}
 use Rattle.thin_run.specs.Counting.{IsCounting}
 use Rattle.thin_run.specs.Log.{LogState, log_from, LogHistory}
-use Rattle.thin_run.specs.Story.{Told, IsStory, Answers, AnswerState, unmounted, Causes, FaultState}
+use Rattle.thin_run.specs.Story.{Told, IsStory, Answers, AnswerState, unmounted, Causes, FaultState, faults_from}
 use Rattle.thin_run.specs.Table.{Table, LegalHistory}
 use Rattle.thin_image.specs.Replay.{IsThinWith, IsStart, ring_part, next_commit}
 use Rattle.log_record.specs.declared.record.LogRecord.{LogRecord}
@@ -24,12 +24,6 @@ abbrev pub IsLast : AnswerState → List MountRecord → Type 0
 IsLast last [] = last ≡ unmounted
 IsLast last (m ∷ []) = last ≡ record { up = true; entries = length m.entries.items }
 IsLast last (m ∷ n ∷ more) = ⊥
-
--- each of these lines has its answer: where it made a call, the reply of the next entry, which has the line's call
-abbrev pub AnswersAll : List Command → List Said → List MountRecord → Type 0
-AnswersAll commands said mounts =
-    (story : List Told) × IsStory commands said (all_entries mounts) story
-    × ((last : AnswerState) × Answers unmounted story last × IsLast last mounts)
 
 -- what a kind of disk holds, where such disks tell it
 abbrev pub where_known : Bool → List Sector → Option (List Sector)
@@ -73,8 +67,17 @@ pub record IsFirst (m : MountRecord) : Type 0 where
   pub froms : IsCounting m.froms.items
   pub each : length m.froms.items ≡ length m.entries.items
 
--- the answers have their causes in the disk's faults, which were so many before the first line and after the last
-abbrev pub Caused : ℕ → ℕ → List Said → List MountRecord → Type 0
-Caused before after said mounts =
-    (commands : List Command) × ((story : List Told) × IsStory commands said (all_entries mounts) story
-    × ((last : FaultState) × Causes (record { count = before; down = None }) story last × (last.count ≤ after)))
+-- The first of these commands were answered, in order. Each has its answer: where it made a call, the reply of the next entry, which has the line's call.
+-- And each answer has its cause in the disk's faults, which were so many before the first line and after the run.
+pub record AnswersLines (commands : List Command) (before after : ℕ) (ended : Status) (said : List Said) (mounts : List MountRecord) : Type 0 where
+  pub story : List Told
+  pub told : IsStory (take (length said) commands) said (all_entries mounts) story
+  pub last : AnswerState
+  pub answers : Answers unmounted story last
+  pub up : IsLast last mounts
+  pub faults : FaultState
+  pub causes : Causes (faults_from before) story faults
+  pub counted : faults.count ≤ after
+  -- where the run ended well, it was all of them, and no fault came behind the last
+  pub whole : ended ≡ status.Good → length said ≡ length commands
+  pub last_count : ended ≡ status.Good → faults.count ≡ after

@@ -1,5 +1,5 @@
 -- A run in progress: a mount that is up, if there is one, and what the lines so far were answered.
-use Rattle.std.specs.Prelude.{◌≡◌, ◌≤◌, ◌++◌, ⊤, ℕ, Bool, true, false, List, [], Option, None, Some, is_some, IsTrue, option_to_list, length}
+use Rattle.std.specs.Prelude.{◌≡◌, ◌≤◌, ◌++◌, ⊤, ℕ, Bool, true, false, List, [], Option, None, Some, is_some, IsTrue, option_to_list, length, vec_len}
 use Rattle.life_bytes.specs.declared.sector.Sector.{Sector}
 use Rattle.thin_run.specs.declared.mount.Mount.{Mount}
 use Rattle.thin_run.specs.declared.command.Command.{Command}
@@ -33,8 +33,13 @@ abbrev pub down_of : Option Mount → Option ℕ
 down_of None = None
 down_of (Some m) = m.down
 
+-- how many changes no record has
+abbrev pub pending_of : Option Mount → ℕ
+pending_of None = 0
+pending_of (Some m) = vec_len m.pending
+
 abbrev pub fault_state : Option Mount → ℕ → FaultState
-fault_state mount count = record { count = count; down = down_of mount }
+fault_state mount count = record { count = count; down = down_of mount; pending = pending_of mount }
 
 -- from what the mount began with, the entries are a legal history of the table, and the log gives their replies
 pub record HasHistory (o : Origin) (m : Mount) : Type 0 where

@@ -1,5 +1,5 @@
 -- What a mount's disk holds between two calls.
-use Rattle.std.specs.Prelude.{◌≡◌, ◌≤◌, ◌<◌, ◌+◌, ◌++◌, ◌∷◌, [], ◌-◌, ⊤, ℕ, Bool, List, Option, None, Some, length, map, drop, vec_len, zero, suc}
+use Rattle.std.specs.Prelude.{◌≡◌, ◌≤◌, ◌<◌, ◌+◌, ◌++◌, ◌∷◌, [], ℕ, List, Option, None, Some, length, map, drop, zero, suc}
 use Rattle.std.specs.List.{All}
 use Rattle.life_bytes.specs.declared.sector.Sector.{Sector}
 use Rattle.disk_model.specs.Disk.{Cell, IsImage, HasOneImage, as_read, flushed, written, IsPartlyWritten}

@@ -67,31 +67,39 @@ AnswersLine before (Whole call) said made after = AnswersCall before before.up c
 abbrev pub Answers : AnswerState → List Told → AnswerState → Type 0
 Answers first story last = Steps (λ before known after. AnswersLine before known.command known.said known.made after) first story last
 
--- the disk's count of faults, and what it was after the fault that took the log down
+-- the disk's count of faults, what it was after the fault that took the log down, and how many changes no record has yet
 pub record FaultState : Type 0 where
   pub count : ℕ
   pub down : Option ℕ
+  pub pending : ℕ
 
--- the line did nothing that could make the disk fail
+-- before the first line the disk has counted so many
+abbrev pub faults_from : ℕ → FaultState
+faults_from count = record { count = count; down = None; pending = 0 }
+
+-- the line made no call of the disk
 abbrev pub IsQuiet : FaultState → FaultState → Type 0
 IsQuiet before after = after ≡ before
 
 -- why a call was answered so, as far as the disk's faults go
 abbrev pub ReplyCause : FaultState → Reply → FaultState → Type 0
-ReplyCause before (reply.Made key) after = IsQuiet before after
+ReplyCause before (reply.Made key) after = after ≡ record before { pending = before.pending + 1 }
 ReplyCause before reply.NoInodes after = IsQuiet before after
-ReplyCause before (reply.Covered changes) after = (before.down ≡ None) × (before.count ≤ after.count) × (after.down ≡ None)
-ReplyCause before reply.WriteFault after = (before.down ≡ None) × Rose before.count after.count × (after.down ≡ Some after.count)
-ReplyCause before reply.FlushFault after = (before.down ≡ None) × Rose before.count after.count × (after.down ≡ Some after.count)
+ReplyCause before (reply.Covered changes) after =
+    (before.down ≡ None) × (before.count ≤ after.count) × (after.down ≡ None) × (after.pending ≡ 0) × (before.pending ≡ 0 → after.count ≡ before.count)
+ReplyCause before reply.WriteFault after =
+    (before.down ≡ None) × Rose before.count after.count × (after.down ≡ Some after.count) × (after.pending ≡ before.pending)
+ReplyCause before reply.FlushFault after =
+    (before.down ≡ None) × Rose before.count after.count × (after.down ≡ Some after.count) × (after.pending ≡ before.pending)
 ReplyCause before reply.LogEnd after = (before.down ≡ None) × IsQuiet before after
 ReplyCause before (reply.Down fault) after = (before.down ≡ Some fault) × IsQuiet before after
 
 -- the same of a line that made no call
 abbrev pub LineCause : FaultState → LineReply → FaultState → Type 0
-LineCause before (line.Mounted kept freed) after = (before.count ≤ after.count) × (after.down ≡ None)
-LineCause before (line.Damaged rule sector) after = (before.count ≤ after.count) × (after.down ≡ before.down)
-LineCause before line.ReadFault after = Rose before.count after.count × (after.down ≡ before.down)
-LineCause before line.FlushFault after = Rose before.count after.count × (after.down ≡ before.down)
+LineCause before (line.Mounted kept freed) after = (before.count ≤ after.count) × (after.down ≡ None) × (after.pending ≡ 0)
+LineCause before (line.Damaged rule sector) after = (before.count ≤ after.count) × (after ≡ record before { count = after.count })
+LineCause before line.ReadFault after = Rose before.count after.count × (after ≡ record before { count = after.count })
+LineCause before line.FlushFault after = Rose before.count after.count × (after ≡ record before { count = after.count })
 LineCause before line.AlreadyMounted after = IsQuiet before after
 LineCause before line.NotMounted after = IsQuiet before after
 

@@ -1,12 +1,12 @@
 -- The lines of a run, from its first on.
-use Rattle.std.specs.Prelude.{◌≡◌, ◌++◌, ℕ, Bool, true, false, List, [], ◌∷◌, Option, None, is_some, IsTrue}
+use Rattle.std.specs.Prelude.{◌≡◌, ◌++◌, ℕ, Bool, true, false, List, [], ◌∷◌, Option, is_some, IsTrue}
 use Rattle.life_bytes.specs.declared.sector.Sector.{Sector}
 use Rattle.thin_run.specs.declared.runner.Run.{Run}
 use Rattle.thin_run.specs.declared.command.Command.{Command}
 use Rattle.thin_run.specs.declared.types.Said.{Said}
 use Rattle.thin_run.specs.declared.types.Entry.{Entry}
 use Rattle.thin_run.specs.Run.{AnswersAs, ComesUp, KeepsImage, entries_of, answer_state, fault_state, HaveHistory}
-use Rattle.thin_run.specs.Story.{Told, IsStory, Answers, Causes, unmounted}
+use Rattle.thin_run.specs.Story.{Told, IsStory, Answers, Causes, faults_from, unmounted}
 use Rattle.thin_run.specs.Thin.{Origin, Begins, MountsFit}
 
 -- one more line was answered
@@ -27,7 +27,7 @@ HasOrigin known image run = (o : Origin) × HaveHistory o run.mount × (IsTrue k
 pub record IsWalk (commands : List Command) (before after : ℕ) (run : Run) (story : List Told) : Type 0 where
   pub known : IsStory commands run.said.items (entries_of run.mount) story
   pub answers : Answers unmounted story (answer_state run.mount)
-  pub causes : Causes (record { count = before; down = None }) story (fault_state run.mount after)
+  pub causes : Causes (faults_from before) story (fault_state run.mount after)
 
 -- the same over what the disk read as before the first line, where it tells: it reads so as long as no mount is up
 pub record IsWalkOver (known : Bool) (image now : List Sector) (run : Run) : Type 0 where

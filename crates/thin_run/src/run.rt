@@ -1,13 +1,12 @@
 // A whole run of commands over a disk that was given.
 
-ghost use Rattle.std.specs.Prelude.{◌≡◌, ◌<◌, IfSome, IsSome, IsTrue, [], length, take, vec_len, vec_capacity};
+ghost use Rattle.std.specs.Prelude.{◌≡◌, ◌<◌, IfSome, IsSome, IsTrue, [], vec_len, vec_capacity};
 ghost use Rattle.std.specs.List.{AllByRecursion};
 ghost use Rattle.disk_model.specs.Disk.{HasOneImage, as_read};
 ghost use Rattle.thin_run.specs.Thin.{ring_of};
-ghost use Rattle.thin_run.specs.Outcome.{AnswersAll, IsLegalOver, IsLogged, IsFirst, Caused, FitWhereKnown, where_known, IsRunStatus};
+ghost use Rattle.thin_run.specs.Outcome.{AnswersLines, IsLegalOver, IsLogged, IsFirst, FitWhereKnown, where_known, IsRunStatus};
 ghost use Rattle.thin_run.specs.Ending.{stories_of};
 ghost use Rattle.thin_run.specs.CrashSafe.{IsLeft};
-ghost use Rattle.thin_run.specs.declared.types.Status.TheVariants as status;
 
 use crate::command::Command;
 use crate::mount::{Mount, push_reserved};
@@ -30,14 +29,12 @@ fn stories(mount: Option<Mount>, mounts: &mut Vec<MountRecord>)
 /// Runs commands over a disk, in order, to the last or until memory lacks. The disk is handed back; a mount that is
 /// up at the end is left as by a stop.
 pub fn run_over<D: Disk>(alloc: Global, mut disk: D, commands: &[Command]) -> Ended<D>
-    ensures replies { AnswersAll (take (length result.said.items) commands.now) result.said.items result.mounts.items }
-    ensures whole { result.status ≡ status.Good → length result.said.items ≡ length commands.now }
     ensures legal { AllByRecursion (IsLegalOver (where_known D.known (as_read (D.cells disk)))) result.mounts.items }
     ensures damaged { FitWhereKnown (where_known D.known (as_read (D.cells disk))) result.said.items }
     ensures log { IfSome result.disk (λ after. AllByRecursion (IsLogged (where_known D.known (as_read (D.cells disk))) (ring_of (D.sector_count after))) result.mounts.items) }
     ensures first { AllByRecursion IsFirst result.mounts.items }
     ensures crash_safe { IsTrue D.known → HasOneImage (D.cells disk) → IfSome result.disk (λ after. IsLeft (as_read (D.cells disk)) result.mounts.items (D.cells after)) }
-    ensures caused { IfSome result.disk (λ after. Caused (D.fault_count disk) (D.fault_count after) result.said.items result.mounts.items) }
+    ensures answers { IfSome result.disk (λ after. AnswersLines commands.now (D.fault_count disk) (D.fault_count after) result.status result.said.items result.mounts.items) }
     ensures given_back { IfSome result.disk (λ after. D.sector_count after ≡ D.sector_count disk) }
     ensures disk { IsSome result.disk }
     ensures ended { IsRunStatus result.status }

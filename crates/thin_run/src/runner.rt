@@ -150,7 +150,7 @@ impl Run {
 /// Runs the lines, in order, to the last or until memory lacks. It tells whether all were run.
 pub(crate) fn run_lines<D: Disk>(alloc: Global, disk: &mut D, commands: &[Command]) -> (Run, bool)
     ensures walk { (story : List Told) × ((count : ℕ) × IsWalk (take (length result.0.said.items) commands.now) (D.fault_count disk.old) count result.0 story
-        × (count ≤ D.fault_count disk.new)) }
+        × (count ≤ D.fault_count disk.new) × (IsTrue result.1 → count ≡ D.fault_count disk.new)) }
     ensures over { IsWalkOver D.known (as_read (D.cells disk.old)) (as_read (D.cells disk.new)) result.0 }
     ensures holds { IsTrue D.known → HasOneImage (D.cells disk.old) → DiskHolds (as_read (D.cells disk.old)) result.0.mount (D.cells disk.new) }
     ensures whole { IsTrue result.1 → length result.0.said.items ≡ length commands.now }

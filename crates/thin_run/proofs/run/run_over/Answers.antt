@@ -1,4 +1,4 @@
-use Rattle.std.proofs.Common.{List, None, refl, ◌∙◌, sym, subst, take, length}
+use Rattle.std.proofs.Common.{◌≡◌, List, None, refl, ◌∙◌, sym, subst, length}
 use Rattle.thin_run.specs.CrashSafe.{IsLeft}
 use Rattle.thin_run.proofs.Beginnings.{IsLeft-held}
 use Rattle.std.specs.List.{AllByRecursion}
@@ -6,7 +6,10 @@ use Rattle.disk_model.specs.Disk.{as_read}
 use Rattle.thin_run.specs.declared.types.MountRecord.{MountRecord}
 use Rattle.thin_run.specs.Thin.{ring_of}
 use Rattle.thin_run.specs.Outcome.{IsLegalOver, IsLogged, IsFirst, where_known}
-use Rattle.thin_run.proofs.Endings.{stories_of-legal, stories_of-logged, stories_of-first, IsWalk-caused}
+use Rattle.thin_run.proofs.Endings.{stories_of-legal, stories_of-logged, stories_of-first, IsWalk-answers, no-answers}
+use Rattle.thin_run.specs.declared.types.Status.{Status}
+use Rattle.thin_run.specs.declared.types.Status.TheVariants as status
+use Rattle.thin_run.proofs.run.run_over.Goals.{then-whole, else-whole}
 use Rattle.thin_run.proofs.run.run_over.Goals as goal
 
 pub returns-clause-legal : goal.returns-clause-legal
@@ -30,12 +33,28 @@ returns-clause-first g c =
     let origin = c.run_lines-run.ensures.over.origin in
     subst (λ (mounts : List MountRecord). AllByRecursion IsFirst mounts) (sym c.stories.ensures) (stories_of-first origin.0 run.mount origin.1)
 
-pub returns-clause-caused : goal.returns-clause-caused
-returns-clause-caused g c =
+-- a run that gave up did not end well
+gave_up : {P : Type 0} (ended : Status) → ended ≡ status.NoMemory → ended ≡ status.Good → P
+gave_up ended is good =
+    let bad : status.NoMemory ≡ status.Good = sym is ∙ good in
+    absurd cc
+
+pub returns-clause-answers : goal.returns-clause-answers
+returns-clause-answers g c =
     let walk = c.run_lines-run.ensures.walk in
     let run = c.run_lines-run.result.0 in
-    IsWalk-caused (take (length run.said.items) c.args.commands.now) (g.D.Disk.fault_count c.args.disk) walk.1.0 (g.D.Disk.fault_count c.run_lines-run.new.disk)
-    run walk.0 c.stories.new.mounts.items c.stories.ensures walk.1.1 walk.1.2
+    let ended = c.if-whole.status in
+    let all : ended ≡ status.Good → length run.said.items ≡ length c.args.commands.now =
+    elim c.if-whole.branch [ then-whole w ↦ λ good. c.run_lines-run.ensures.whole w.if-whole.true | else-whole w ↦ gave_up ended w.status-is ] in
+    let last : ended ≡ status.Good → walk.1.0 ≡ g.D.Disk.fault_count c.run_lines-run.new.disk =
+    elim c.if-whole.branch [ then-whole w ↦ λ good. walk.1.3 w.if-whole.true | else-whole w ↦ gave_up ended w.status-is ] in
+    IsWalk-answers c.args.commands.now (g.D.Disk.fault_count c.args.disk) walk.1.0 (g.D.Disk.fault_count c.run_lines-run.new.disk) ended
+    run walk.0 c.stories.new.mounts.items c.stories.ensures walk.1.1 walk.1.2 all last
+
+pub returns-then-is_err-clause-answers : goal.returns-then-is_err-clause-answers
+returns-then-is_err-clause-answers g c =
+    no-answers c.args.commands.now (g.D.Disk.fault_count c.args.disk) status.NoMemory c.new.result.items c.reserve.new.self.items c.new.ensures.items
+    (c.reserve.ensures.items ∙ c.new-mounts.ensures.items) (gave_up status.NoMemory refl)
 
 pub returns-then-is_err-clause-crash_safe : goal.returns-then-is_err-clause-crash_safe
 returns-then-is_err-clause-crash_safe g c known one =

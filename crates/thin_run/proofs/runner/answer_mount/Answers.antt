@@ -1,7 +1,7 @@
 use Rattle.std.proofs.Common.{sym, ◌∙◌}
 use Rattle.disk_model.specs.Disk.{as_read}
 use Rattle.thin_run.proofs.History.{AnswersAs-fresh, ComesUp-fresh}
-use Rattle.thin_run.proofs.Beginnings.{DiskHolds-fresh, DiskHolds-kept}
+use Rattle.thin_run.proofs.Beginnings.{DiskHolds-fresh}
 use Rattle.thin_run.proofs.runner.answer_mount.Goals as goal
 
 pub returns-in-Ok-clause-answers : goal.returns-in-Ok-clause-answers

@@ -51,6 +51,7 @@ returns-then-is_err-clause-walk g c =
         IsWalk-left (take c.loop-command.command-index c.args.commands.now) (g.D.Disk.fault_count c.args.disk.now) (g.D.Disk.fault_count c.loop-command.disk)
             c.loop-command.run c.line.new.self walk.0 left unsaid walk.1,
         at_err c.line.result ill c.line.ensures.risen,
+        (λ no. absurd (true≢false (sym no))),
       ),
     )
 

@@ -1,7 +1,6 @@
-use Rattle.std.proofs.Common.{ap, Option, ℕ}
 use Rattle.thin_run.specs.Log.{LogReply}
-use Rattle.thin_run.specs.Mount.{Creates, log_of, faults_of}
-use Rattle.thin_run.proofs.Calls.{IfOk-both, Creates-table, Creates-quiet}
+use Rattle.thin_run.specs.Mount.{Creates, log_of}
+use Rattle.thin_run.proofs.Calls.{IfOk-both, Creates-table, Creates-cause}
 use Rattle.thin_run.proofs.mount.Mount.answer.Goals as goal
 
 pub returns-in-Create-clause-answers : goal.returns-in-Create-clause-answers
@@ -13,5 +12,5 @@ returns-in-Create-clause-answers g c =
     (λ answer creates log. record {
       table = Creates-table c.in-Create.group old.in_use answer new.in_use creates;
       log = log;
-      cause = Creates-quiet old.in_use answer new.in_use (faults_of old count) (faults_of new count) (ap (λ (d : Option ℕ). record { count = count; down = d }) c.create.ensures.down) creates;
+      cause = Creates-cause old new count answer c.create.ensures.down creates log;
     }) c.create.ensures.creates c.create.ensures.log)
