@@ -11,6 +11,7 @@ mod input;
 mod making;
 mod output;
 mod script;
+mod standard;
 mod steps;
 #[cfg(test)]
 mod tests;
@@ -19,6 +20,8 @@ mod top;
 
 use file_disk::FileImages;
 use life_ports::{ReaderSource, WriterSink};
+use output::write_whole;
+use standard::hold_standard;
 use std::alloc::Global;
 use std::env::Args;
 use std::process::ExitCode;
@@ -45,10 +48,14 @@ fn words_of(alloc: Global, arguments: io::Result<Args<Global>>) -> Vec<String> {
 
 fn main(rt: HostRuntime) -> ExitCode {
     let alloc = rt.alloc();
+    let mut sink = WriterSink::new(rt.stdout());
+    let Ok(_held) = hold_standard(alloc, &rt) else {
+        let _ = write_whole(&mut sink, b"open fault\n");
+        return ExitCode::from(exit_code(&Status::OpenFault));
+    };
     let words = words_of(alloc, env::args(&rt));
     let mut images = FileImages::new(alloc, &rt);
     let mut source = ReaderSource::new(rt.stdin());
-    let mut sink = WriterSink::new(rt.stdout());
     let ended = top(alloc, &words, &mut images, &mut source, &mut sink);
     ExitCode::from(exit_code(&ended.status))
 }
