@@ -124,7 +124,7 @@ covering_step known cells sectors arming count Idle result old new free is cover
 
 -- ---- a force that gathers
 
-some_gathers : (list : List Commit) → list ≢ [] → gathers_at_rest Force list ≡ true
+pub some_gathers : (list : List Commit) → list ≢ [] → gathers_at_rest Force list ≡ true
 some_gathers [] some = absurd (some refl)
 some_gathers (commit ∷ list) some = refl
 

@@ -8,3 +8,4 @@ pub mod Ways
 pub mod Jobs
 pub mod Done
 pub mod Whole
+pub mod Ends

@@ -5,3 +5,4 @@ pub mod Calls
 pub mod Steps
 pub mod Outcome
 pub mod Actions
+pub mod Spare

@@ -65,7 +65,12 @@ impl<D: Disk> Store<D> {
         // A record has at most 135 sectors, and a force writes at most one cover in front of it.
         ensures rises { Rises 0 0 (state_of self.old) (state_of self.new) }
         ensures arming { IsAfterWrites (D.arming self.old.disk) (D.arming self.new.disk) }
-        ensures fault { IfErr result (λ fault. IsFault fault Force (state_of self.new) (D.fault_count self.old.disk) (D.fault_count self.new.disk)) }
+        ensures write_fault { result ≡ Err StoreFault.WriteFault → IsFault StoreFault.WriteFault Force
+            (state_of self.new) (D.fault_count self.old.disk) (D.fault_count self.new.disk) }
+        ensures flush_fault { result ≡ Err StoreFault.FlushFault → IsFault StoreFault.FlushFault Force
+            (state_of self.new) (D.fault_count self.old.disk) (D.fault_count self.new.disk) }
+        ensures position_end { result ≡ Err StoreFault.PositionEnd → IsFault StoreFault.PositionEnd Force
+            (state_of self.new) (D.fault_count self.old.disk) (D.fault_count self.new.disk) }
         ensures down { (fault : ℕ) → self.old.stage ≡ Down fault → (result ≡ Err (StoreFault.Down fault)) × (self.new.disk ≡ self.old.disk) }
     {
         states();
@@ -90,7 +95,12 @@ impl<D: Disk> Store<D> {
         ensures home { OnOk result ((self.new.dirty.images ≡ []) × (self.new.unflushed ≡ false)) }
         ensures stays { PositionsStay (state_of self.old) (state_of self.new) }
         ensures arming { IsAfterWrites (D.arming self.old.disk) (D.arming self.new.disk) }
-        ensures fault { IfErr result (λ fault. IsFault fault WriteBack (state_of self.new) (D.fault_count self.old.disk) (D.fault_count self.new.disk)) }
+        ensures write_fault { result ≡ Err StoreFault.WriteFault → IsFault StoreFault.WriteFault WriteBack
+            (state_of self.new) (D.fault_count self.old.disk) (D.fault_count self.new.disk) }
+        ensures flush_fault { result ≡ Err StoreFault.FlushFault → IsFault StoreFault.FlushFault WriteBack
+            (state_of self.new) (D.fault_count self.old.disk) (D.fault_count self.new.disk) }
+        ensures position_end { result ≡ Err StoreFault.PositionEnd → IsFault StoreFault.PositionEnd WriteBack
+            (state_of self.new) (D.fault_count self.old.disk) (D.fault_count self.new.disk) }
         ensures down { (fault : ℕ) → self.old.stage ≡ Down fault → (result ≡ Err (StoreFault.Down fault)) × (self.new.disk ≡ self.old.disk) }
     {
         self.begin(Job::WriteBack);
@@ -115,7 +125,12 @@ impl<D: Disk> Store<D> {
         ensures failed { OnErr result (PositionsStay (state_of self.old) (state_of self.new)) }
         ensures end { (result ≡ Err StoreFault.PositionEnd) ↔ (self.old.stage ≡ Free) × (2 ^ 63 < self.old.positions.head + 1) }
         ensures arming { IsAfterWrites (D.arming self.old.disk) (D.arming self.new.disk) }
-        ensures fault { IfErr result (λ fault. IsFault fault Home (state_of self.new) (D.fault_count self.old.disk) (D.fault_count self.new.disk)) }
+        ensures write_fault { result ≡ Err StoreFault.WriteFault → IsFault StoreFault.WriteFault Home
+            (state_of self.new) (D.fault_count self.old.disk) (D.fault_count self.new.disk) }
+        ensures flush_fault { result ≡ Err StoreFault.FlushFault → IsFault StoreFault.FlushFault Home
+            (state_of self.new) (D.fault_count self.old.disk) (D.fault_count self.new.disk) }
+        ensures position_end { result ≡ Err StoreFault.PositionEnd → IsFault StoreFault.PositionEnd Home
+            (state_of self.new) (D.fault_count self.old.disk) (D.fault_count self.new.disk) }
         ensures down { (fault : ℕ) → self.old.stage ≡ Down fault → (result ≡ Err (StoreFault.Down fault)) × (self.new.disk ≡ self.old.disk) }
     {
         self.begin(Job::Home);

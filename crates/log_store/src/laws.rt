@@ -7,11 +7,18 @@ ghost use Rattle.log_image.specs.Log.{IsGroupImage};
 ghost use Rattle.log_image.specs.Overlay.{overlaid};
 ghost use Rattle.log_batch.specs.Newest.{commit_images};
 ghost use Rattle.log_batch.specs.Put.{KeysRise};
+ghost use Rattle.log_store.specs.Actions.{IsStep};
 ghost use Rattle.log_store.specs.Landed.{RingFits, covered_state, flushed_home, landed, written_home};
 ghost use Rattle.log_store.specs.OnDisk.{AtRest, Covers, Flies, HoldsState, ReplaysTo, base_of, cover_written, fully_written, half_written};
-ghost use Rattle.log_store.specs.State.{State};
+ghost use Rattle.log_store.specs.Outcome.{steps_left};
+ghost use Rattle.log_store.specs.State.{State, state_of};
+ghost use Rattle.log_store.specs.Steps.{IsStore};
+ghost use Rattle.log_store.specs.declared.store.Store.{Store};
 ghost use Rattle.log_store.specs.declared.store.Stage.TheVariants.{Cover};
 
+use crate::fault::Progress;
+use crate::store::Store;
+use disk_model::Disk;
 use log_image::{covers, disk_writes, home_writes, torn_records};
 
 /// Laws of a record in flight: an image replays to the base, or to the base with the record's commits over it; and once
@@ -78,4 +85,12 @@ pub(crate) fn homes()
 {
     home_writes();
     disk_writes();
+}
+
+/// Law: a job ends, since each step after which it goes on leaves fewer.
+pub fn jobs_end<D: Disk>()
+    ensures { (old new : Store D) → IsStore D.known D.cells D.sector_count old
+        → IsStep D.known D.cells D.sector_count D.arming D.fault_count (Ok Progress.More) old new
+        → steps_left (state_of new) new.job < steps_left (state_of old) old.job }
+{
 }

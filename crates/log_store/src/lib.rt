@@ -13,6 +13,7 @@ mod take;
 
 pub use begin::begin_store;
 pub use fault::{Progress, StoreFault};
+pub use laws::jobs_end;
 pub use store::Store;
 
 #[cfg(test)]

@@ -1,9 +1,9 @@
 // Taking commits.
 ghost use Rattle.std.specs.Prelude.{◌≡◌, ◌≤◌, ◌<◌, ◌+◌, ◌-◌, ◌^◌, [], ◌∷◌, ◌++◌, length, IfSome, OnOk};
 ghost use Rattle.std.specs.List.{All};
-ghost use Rattle.std.specs.VecDeque.{deque_capacity, deque_len};
 ghost use Rattle.log_image.specs.Log.{IsGroupImage};
 ghost use Rattle.log_batch.specs.Newest.{IsCommit, commit_images};
+ghost use Rattle.log_store.specs.Spare.{spare_commits, spare_images};
 ghost use Rattle.log_store.specs.State.{state_of};
 ghost use Rattle.log_store.specs.Steps.{IsStore};
 
@@ -26,15 +26,16 @@ fn count_images(commits: &VecDeque<Commit>) -> Option<usize>
 
 impl<D: Disk> Store<D> {
     /// Makes room for so many more commits with so many images, and for all that making them durable and writing
-    /// them home needs.
+    /// them home needs. Room that there is stays.
     pub fn reserve(&mut self, commits: u32, images: u32) -> Result<(), NoMemory>
         requires { IsStore D.known D.cells D.sector_count self.old }
         ensures store { IsStore D.known D.cells D.sector_count self.new }
         ensures state { state_of self.new ≡ state_of self.old }
         ensures disk { self.new.disk ≡ self.old.disk }
         ensures job { self.new.job ≡ self.old.job }
-        ensures commits { OnOk result (deque_len self.new.queue + commits ≤ deque_capacity self.new.queue) }
-        ensures images { OnOk result (length (commit_images self.new.queue.items) + images ≤ self.new.dirty.room) }
+        ensures commits { OnOk result (commits ≤ spare_commits self.new) }
+        ensures images { OnOk result (images ≤ spare_images self.new) }
+        ensures kept { (spare_commits self.old ≤ spare_commits self.new) × (spare_images self.old ≤ spare_images self.new) }
     {
         let Some(waiting) = count_images(&self.queue) else {
             return Err(NoMemory);
@@ -49,8 +50,8 @@ impl<D: Disk> Store<D> {
     /// Takes a commit, which gets the next number. There has to be room for it.
     pub fn take(&mut self, commit: Commit)
         requires store { IsStore D.known D.cells D.sector_count self.old }
-        requires commits { deque_len self.old.queue < deque_capacity self.old.queue }
-        requires images { length (commit_images self.old.queue.items) + length commit.images ≤ self.old.dirty.room }
+        requires commits { 0 < spare_commits self.old }
+        requires images { length commit.images ≤ spare_images self.old }
         requires commit { IsCommit commit }
         requires groups { All (IsGroupImage self.old.anchor) commit.images }
         requires number { self.old.durable + length self.old.queue.items + 1 < 2 ^ 64 - 1 }
@@ -58,9 +59,8 @@ impl<D: Disk> Store<D> {
         ensures list { state_of self.new ≡ record (state_of self.old) { list = self.old.queue.items ++ commit ∷ [] } }
         ensures disk { self.new.disk ≡ self.old.disk }
         ensures job { self.new.job ≡ self.old.job }
-        ensures commits { deque_len self.new.queue ≡ deque_len self.old.queue + 1 }
-        ensures images { self.new.dirty ≡ self.old.dirty }
-        ensures capacity { deque_capacity self.new.queue ≡ deque_capacity self.old.queue }
+        ensures commits { spare_commits self.new + 1 ≡ spare_commits self.old }
+        ensures images { spare_images self.new + length commit.images ≡ spare_images self.old }
     {
         self.queue.push_back_reserved(commit);
     }
