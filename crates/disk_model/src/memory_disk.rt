@@ -83,7 +83,7 @@ impl MemoryDisk {
     /// Makes one outcome of a stop, which is then all that the disk holds, and its record begins anew.
     ///
     /// `choice` is read as digits, the lowest for the first sector: each in the base of how many values a
-    /// stop may leave in its sector, where 0 represents the oldest of them.
+    /// stop may leave in its sector, where 0 stands for the oldest of them.
     pub fn pick(&mut self, choice: u64)
         ensures picked { self.new ≡ record self.old
             { first = picked choice (cells_of self.old); changes = [] } }

@@ -121,12 +121,12 @@ IsGiven words old new =
 abbrev pub YieldsRead : Status → Status → Type 0
 YieldsRead ended expected = (ended ≡ status.SourceFault) ⊎ Yields ended expected
 
--- a script fault comes exactly where a line of a script that is not too long is outside the grammar, and names the first
+-- a script fault comes exactly where a line of a script that is not too long is outside the grammar, unless the source or the sink failed or memory lacked, and names the first
 pub record FaultsExactly (bytes : List ℕ) (ended : Status) : Type 0 where
   pub named : (line rule : ℕ) → ended ≡ status.ScriptFault line rule → (rule ≡ 0) × IsOutsideAt bytes line
   pub exact : (line : ℕ) → IsOutsideAt bytes line → YieldsRead ended (status.ScriptFault line 0)
 
--- a script is too long exactly where it has more bytes than a script may have
+-- a script is too long exactly where it has more bytes than a script may have, unless the source or the sink failed or memory lacked
 pub record IsTooLongExactly (bytes : List ℕ) (ended : Status) : Type 0 where
   pub named : ended ≡ status.ScriptTooLong → MAX_SCRIPT_BYTES < length bytes
   pub exact : MAX_SCRIPT_BYTES < length bytes → YieldsRead ended status.ScriptTooLong

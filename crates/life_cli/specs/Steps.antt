@@ -37,7 +37,7 @@ pub record RunsSteps {I D S : Type 0} (seen : ImagesSeen I D) (source : ScriptSe
   pub legal : AllByRecursion (IsLegalOver (image_before seen images path)) mounts
   pub first : AllByRecursion IsFirst mounts
   pub log : IfSome disk (λ d. AllByRecursion (IsLogged (image_before seen images path) (ring_of (seen.sectors d))) mounts)
-  -- a mount line is answered that the image is damaged exactly where it is not thin
+  -- a mount line is answered that the image is damaged only where it is not thin, and comes up only where it is; a read may fail instead
   pub damaged : FitWhereKnown (image_before seen images path) said
   -- Each image that a stop may leave represents the table after a prefix of the mount's changes that holds each acknowledged one.
   -- Where there was no mount, it is the first image.

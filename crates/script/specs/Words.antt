@@ -39,7 +39,7 @@ IsDecimal low high word = (n : ℕ) × (low ≤ n) × (n ≤ high) × (word ≡ 
 abbrev pub IsHandleText : List ℕ → Type 0
 IsHandleText word = (key : Key) × IsHandle key × (word ≡ handle_text key)
 
--- what a word represents
+-- what a word is
 pub data Kind : Type 0 where
   actor : Kind
   name : Kind

@@ -43,7 +43,7 @@ RepresentsWhereKnown (Some image) t = Represents image t
 abbrev pub IsLegalOver : Option (List Sector) → MountRecord → Type 0
 IsLegalOver image m = (first : Table) × RepresentsWhereKnown image first × ((last : Table) × LegalHistory first m.entries.items last)
 
--- a mount line was damaged exactly where the image, if it is known, is not thin
+-- a mount line was damaged only where the image, if it is known, is not thin, and came up only where it is
 abbrev pub FitWhereKnown : Option (List Sector) → List Said → Type 0
 FitWhereKnown None said = ⊤
 FitWhereKnown (Some image) said = MountsFit image said

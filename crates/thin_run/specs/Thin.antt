@@ -48,7 +48,7 @@ pub record BeginsWith (image : List Sector) (records : List LogRecord) (o : Orig
 abbrev pub Begins : List Sector → Origin → Type 0
 Begins image o = (records : List LogRecord) × BeginsWith image records o
 
--- a mount is damaged exactly where the image is not thin; what it answers otherwise is found later
+-- a mount is damaged only where the image is not thin, and comes up only where it is; where a read fails, it may be either
 abbrev pub MountFits : List Sector → Said → Type 0
 MountFits image (Of mount entry) = ⊤
 MountFits image (Line actor (line.Mounted kept freed)) = IsThin image
