@@ -15,7 +15,7 @@ use Rattle.log_store.specs.declared.fault.StoreFault.TheVariants as faults
 use Rattle.log_store.specs.declared.store.Job.{Job}
 use Rattle.log_store.specs.declared.store.Job.TheVariants.{Clear, Force, Home, Idle, Nothing, WriteBack}
 use Rattle.log_store.specs.declared.store.Stage.{Stage}
-use Rattle.log_store.specs.declared.store.Stage.TheVariants.{Cover, Down, Free, Half, Record}
+use Rattle.log_store.specs.declared.store.Stage.TheVariants.{Cover, Free}
 use Rattle.log_store.specs.declared.store.Store.{Store}
 use Rattle.log_store.specs.Calls.{has_room, with_batch}
 use Rattle.log_store.specs.Actions

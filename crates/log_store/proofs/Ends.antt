@@ -1,5 +1,5 @@
 -- A step after which the job goes on leaves fewer.
-use Rattle.std.proofs.Common.{Bool, true, false, Ok, ◌≡◌, ◌≢◌, ◌+◌, ◌-◌, ◌*◌, ◌%◌, ◌^◌, ◌<◌, ◌≤◌, ℕ, List, [], ◌∷◌, length, drop, cond, refl, sym, ap, ◌∙◌, subst, arith, length-drop}
+use Rattle.std.proofs.Common.{Bool, true, false, Ok, ◌≡◌, ◌≢◌, ◌+◌, ◌-◌, ◌*◌, ◌%◌, ◌^◌, ◌<◌, ◌≤◌, ℕ, List, [], ◌∷◌, length, cond, refl, sym, ap, ◌∙◌, subst, arith, length-drop}
 use Rattle.std.specs.Prelude.{nat_le, nat_lt}
 use Rattle.std.proofs.lemmas.Bool.Decides.{nat_tests}
 use Rattle.life_bytes.specs.declared.sector.Sector.{Sector}
@@ -8,8 +8,6 @@ use Rattle.disk_model.specs.Disk.{Arming, Cell}
 use Rattle.log_record.specs.declared.image.Image.{Image}
 use Rattle.log_record.specs.declared.image.Commit.{Commit}
 use Rattle.log_record.specs.Encoding.{sector_count}
-use Rattle.log_batch.specs.Put.{put_all}
-use Rattle.log_store.specs.declared.fault.Progress.{Progress}
 use Rattle.log_store.specs.declared.fault.Progress.TheVariants.{Ended, More}
 use Rattle.log_store.specs.declared.store.Job.{Job}
 use Rattle.log_store.specs.declared.store.Job.TheVariants.{Clear, Force, Home, Idle, Nothing, WriteBack}
@@ -21,7 +19,7 @@ use Rattle.log_store.specs.Actions
 use Rattle.log_store.specs.Actions.{Action, IsGathered, IsStep, MaySucceed, action_at, done_state, force_action, gathers, gathers_at_rest, home_action, next_job, progress_of, room_action, step_action, step_job, turned_force, within_positions}
 use Rattle.log_store.specs.Outcome.{steps_at, steps_at_rest, steps_left}
 use Rattle.log_store.specs.State.{State, state_of}
-use Rattle.log_store.specs.Steps.{Covering, IsConsistent, IsInFlight, StageFits}
+use Rattle.log_store.specs.Steps.{IsConsistent, IsInFlight, StageFits}
 use Rattle.log_store.proofs.Done.{record_action, some_gathers, with_batch_same}
 use Rattle.log_store.proofs.Launch.{length-put_all-le}
 
@@ -153,7 +151,7 @@ force_lowers (commit ∷ list) s true free list_is room_is few may more =
     let some : s.list ≢ [] = λ none. cons_nil commit list (sym list_is ∙ none) in
     let action : force_action s.list s ≡ within_positions (s.head + sector_count (length s.batch)) Actions.write_record = record_action s.list s some in
     let may_record : MaySucceed (within_positions (s.head + sector_count (length s.batch)) Actions.write_record) =
-        subst MaySucceed action (subst (λ (j : Job). MaySucceed (action_at Free j s)) jobs may) in
+    subst MaySucceed action (subst (λ (j : Job). MaySucceed (action_at Free j s)) jobs may) in
     subst (λ (j : Job). Lowers (action_at Free j s) j s (steps_at_rest Force s)) (sym jobs)
     (subst (λ (a : Action). Lowers a Force s (steps_at_rest Force s)) (sym action)
     (lowers_more _ Force s 5 (steps_at_rest Force s) (force_more s) (record_lowers s (nat_lt (2 ^ 63) (s.head + sector_count (length s.batch))) may_record)))
@@ -236,7 +234,7 @@ batch_few : (stage : Stage) (job : Job) (list : List Commit) (s n : State) → I
     → stage ≡ Free → job ≡ Force → list ≢ [] → length n.batch ≤ 128
 batch_few stage job list s n gathered free force some =
     let is : gathers stage job list ≡ true =
-        ap (λ (st : Stage). gathers st job list) free ∙ ap (λ (j : Job). gathers_at_rest j list) force ∙ some_gathers list some in
+    ap (λ (st : Stage). gathers st job list) free ∙ ap (λ (j : Job). gathers_at_rest j list) force ∙ some_gathers list some in
     (subst (λ (b : Bool). IsGathered b s n) is gathered).few
 
 pub step_lowers : {D : Type 0} (known : Bool) (cells : D → List Cell) (sectors : D → ℕ) (arming : D → Arming) (count : D → ℕ) (size : ℕ) (old new : Store D)
@@ -249,9 +247,9 @@ step_lowers known cells sectors arming count size old new sound step =
     let action : Action = step_action old.stage old.job g in
     let least : 256 ≤ old.ring = omega (arith, old.positions.least_ring, sound.ring) in
     let lowers = stage_lowers old.stage old.job g old.sectors.items old.count refl
-        (fits_gathered old.stage old.job old.queue.items s n old.sectors.items old.count step.batch sound.stage) least
-        (λ free force some. batch_few old.stage old.job old.queue.items s n step.batch free force some) step.done.answer.0 step.done.answer.1 in
+    (fits_gathered old.stage old.job old.queue.items s n old.sectors.items old.count step.batch sound.stage) least
+    (λ free force some. batch_few old.stage old.job old.queue.items s n step.batch free force some) step.done.answer.0 step.done.answer.1 in
     let left : steps_left n new.job ≡ steps_left (done_state action g) (next_job action job) =
-        ap (λ (x : State). steps_left x new.job) step.done.state ∙ ap (λ (j : Job). steps_left (done_state action g) j) step.done.job in
+    ap (λ (x : State). steps_left x new.job) step.done.state ∙ ap (λ (j : Job). steps_left (done_state action g) j) step.done.job in
     let same : steps_at old.stage old.job g ≡ steps_at old.stage old.job s = same_steps old.stage old.job s n in
     omega (arith, left, lowers, same)

@@ -1,5 +1,5 @@
 -- What whole jobs are, from their steps.
-use Rattle.std.proofs.Common.{Bool, true, false, Result, Ok, Err, ◌≡◌, ◌-◌, ◌%◌, ◌≤◌, ℕ, zero, suc, List, length, None, refl, sym, ap, ◌∙◌, subst, arith}
+use Rattle.std.proofs.Common.{Bool, true, false, Result, Ok, Err, ◌≡◌, ◌-◌, ◌%◌, ◌≤◌, ℕ, suc, List, length, None, refl, sym, ap, ◌∙◌, subst, arith}
 use Rattle.std.specs.Prelude.{if◌then◌else◌, nat_le}
 use Rattle.std.specs.Result.{IsErrAnd}
 use Rattle.disk_model.specs.Disk.{Arming, Cell}

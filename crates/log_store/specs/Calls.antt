@@ -1,21 +1,12 @@
 -- Calls of the disk, and what one leaves of it.
-use Rattle.std.specs.Prelude.{ℕ, ◌≡◌, ◌+◌, ◌-◌, Bool, true, false, nat_le, if◌then◌else◌, IsTrue, List, [], ◌∷◌, length, Result, Ok, Err}
+use Rattle.std.specs.Prelude.{ℕ, ◌≡◌, ◌+◌, ◌-◌, Bool, nat_le, IsTrue, List, Result, Ok, Err}
 use Rattle.life_bytes.specs.declared.sector.Sector.{Sector}
 use Rattle.disk_model.specs.Disk.{Arming, Cell, IsPartlyWritten, after_write, flushed, written}
-use Rattle.log_record.specs.declared.image.Image.{Image}
-use Rattle.log_record.specs.declared.image.Commit.{Commit}
-use Rattle.log_record.specs.Encoding.{sector_count, encoded_record}
-use Rattle.log_image.specs.Step.{sector_of_position}
-use Rattle.log_image.specs.Writes.{first_part, rest_part}
+use Rattle.log_record.specs.Encoding.{sector_count}
 use Rattle.log_store.specs.declared.fault.Progress.{Progress}
 use Rattle.log_store.specs.declared.fault.StoreFault.{StoreFault}
-use Rattle.log_store.specs.declared.fault.StoreFault.TheVariants.{WriteFault, FlushFault, PositionEnd}
-use Rattle.log_store.specs.declared.fault.StoreFault.TheVariants as faults
 use Rattle.log_store.specs.declared.store.Job.{Job}
 use Rattle.log_store.specs.declared.store.Job.TheVariants.{Clear, Force, Home, Idle, Nothing, WriteBack}
-use Rattle.log_store.specs.declared.store.Stage.{Stage}
-use Rattle.log_store.specs.declared.store.Stage.TheVariants.{Free, Half, Record, Cover, Down}
-use Rattle.log_store.specs.OnDisk.{cover_record, item_of}
 use Rattle.log_store.specs.State.{State}
 
 -- a call of the disk: none, a write of sectors from a sector on, or a flush

@@ -92,5 +92,4 @@ pub fn jobs_end<D: Disk>()
     ensures { (old new : Store D) → IsStore D.known D.cells D.sector_count old
         → IsStep D.known D.cells D.sector_count D.arming D.fault_count (Ok Progress.More) old new
         → steps_left (state_of new) new.job < steps_left (state_of old) old.job }
-{
-}
+{}

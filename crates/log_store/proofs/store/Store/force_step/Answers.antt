@@ -9,7 +9,6 @@ use Rattle.log_store.proofs.Sound.{job_free}
 use Rattle.log_store.proofs.Ways.{goes_gathered, goes_job}
 use Rattle.log_store.proofs.Launch.{some_taken}
 use Rattle.std.proofs.Common.{◌≤◌}
-use Rattle.log_record.specs.Encoding.{sector_count}
 use Rattle.log_store.proofs.Done.{no_room_step, room_step}
 use Rattle.log_store.proofs.store.Store.force_step.Goals as goal
 

@@ -1,8 +1,8 @@
-use Rattle.std.proofs.Common.{Bool, Result, Err, ◌≡◌, ◌+◌, ◌-◌, ◌%◌, ◌<◌, ℕ, List, length, take, drop, sym, ap, ◌∙◌, subst, arith}
+use Rattle.std.proofs.Common.{Err, ◌≡◌, ◌+◌, ◌-◌, ◌%◌, ◌<◌, ℕ, List, length, take, drop, sym, ap, ◌∙◌, subst, arith}
 use Rattle.std.specs.Prelude.{IsTrue}
 use Rattle.life_limits.specs.declared.TheConstants.{MAX_RECORD_SECTORS}
 use Rattle.life_bytes.specs.declared.sector.Sector.{Sector}
-use Rattle.disk_model.specs.Disk.{Arming, Cell, IsImage, Elapses, IsPartlyWritten, written}
+use Rattle.disk_model.specs.Disk.{Cell, IsImage, Elapses, IsPartlyWritten, written}
 use Rattle.disk_model.specs.DiskLaws.{IsImage-partly_written, length-written}
 use Rattle.log_record.specs.Encoding.{encoded_record}
 use Rattle.log_image.specs.Step.{sector_of_position}
@@ -22,8 +22,6 @@ use Rattle.log_store.proofs.Going.{leaves}
 use Rattle.log_store.proofs.Ways.{goes_written, rerest, rest_range}
 use Rattle.log_store.specs.OnDisk.{Replays}
 use Rattle.log_store.specs.declared.store.Job.TheVariants.{Nothing, WriteBack}
-use Rattle.log_store.specs.declared.fault.Progress.{Progress}
-use Rattle.log_store.specs.declared.fault.StoreFault.{StoreFault}
 use Rattle.log_store.specs.declared.fault.StoreFault.TheVariants.{WriteFault}
 use Rattle.log_store.specs.Actions.{IsDoneBy, write_rest}
 use Rattle.std.proofs.Common.{refl}
