@@ -1,20 +1,22 @@
 -- Where a history leads, and where its changes lead.
-use Rattle.std.proofs.Common.{◌≡◌, IsSomeAnd, ◌⊎◌, Bool, true, false, if◌then◌else◌, List, [], ◌∷◌, length, take, refl, sym, ap, subst, ◌∙◌, inl, inr, ℕ, zero, suc, arith}
+use Rattle.std.proofs.Common.{◌≡◌, IsSomeAnd, ◌⊎◌, Bool, true, false, if◌then◌else◌, Option, None, Some, List, [], ◌∷◌, length, take, refl, sym, ap, subst, ◌∙◌, inl, inr, ℕ, zero, suc, arith}
 use Rattle.std.specs.List.{AllByRecursion}
 use Rattle.std.proofs.lemmas.List.{take_all}
 use Rattle.life_table.specs.declared.key.Key.{Key}
 use Rattle.life_table.specs.declared.types.Call.{Call}
 use Rattle.life_table.specs.declared.types.Call.TheVariants as call
 use Rattle.life_table.specs.declared.types.Reply.{Reply}
+use Rattle.life_table.specs.declared.types.Reply.TheVariants as reply
+use Rattle.life_table.specs.declared.types.Row.{Row}
 use Rattle.life_table.specs.declared.types.Event.{Event}
 use Rattle.life_table.specs.declared.types.Event.TheVariants.{Called, Freed}
 use Rattle.life_table.specs.declared.types.Entry.{Entry}
 use Rattle.life_table.specs.declared.table.Table.{Table}
-use Rattle.life_table.specs.History.{After, after_entries, after_event, changes, closed, is_change}
-use Rattle.life_table.specs.Legal.{Awaits, Frees, IsNoHold, Legal, Permits}
+use Rattle.life_table.specs.History.{After, after_entries, after_event, changes, closed, closed_row, is_change}
+use Rattle.life_table.specs.Legal.{Awaits, Frees, IsNoHold, KeyReplies, Legal, Permits}
 use Rattle.life_table.specs.Table.{row_of}
 use Rattle.life_table.specs.WellFormed.{IsTable}
-use Rattle.group_core.specs.GroupHistory.{HappensUnheld, IsInGroup, LeadsUnheld, LegalGroupHistory, PermitsUnheld}
+use Rattle.group_core.specs.GroupHistory.{HappensUnheld, IsInGroup, LeadsUnheld, LegalGroupHistory, OpenReplies, PermitsUnheld}
 
 pub one_end : (first last other : Table) (entries : List Entry) → LeadsUnheld first entries last → LeadsUnheld first entries other → last ≡ other
 one_end first last other [] leads also = leads ∙ sym also
@@ -138,3 +140,22 @@ call_unheld laws t u called answer none permits leads =
 
 pub free_unheld : (laws : PassOver) (t u : Table) (key : Key) → IsSomeAnd (row_of (closed t) key) Awaits → u ≡ after_event t (Freed key) → HappensUnheld (closed t) (Freed key) (closed u)
 free_unheld laws t u key awaits leads = (awaits, ap closed leads ∙ ends_unheld laws t (Freed key))
+
+-- what an open is answered with holds, it may be answered without
+open_answers : (t : Table) (key : Key) (o : Option Row) (answer : Reply) → KeyReplies t o (call.OpenKey key) answer → OpenReplies (closed_row o) answer
+open_answers t key None reply.Stale answers = tt
+open_answers t key None answer answers = absurd answers
+open_answers t key (Some row) reply.Stale answers = answers.0
+open_answers t key (Some row) reply.Crowded answers = tt
+open_answers t key (Some row) reply.Done answers = tt
+open_answers t key (Some row) answer answers = absurd answers
+
+pub open_unheld : (laws : PassOver) (t u : Table) (key : Key) (answer : Reply) → row_of (closed t) key ≡ closed_row (row_of t key) → Permits t (call.OpenKey key) answer
+    → u ≡ after_event t (Called (call.OpenKey key) answer) → HappensUnheld (closed t) (Called (call.OpenKey key) answer) (closed u)
+open_unheld laws t u key answer rows permits leads = (
+  subst (λ (o : Option Row). OpenReplies o answer) (sym rows) (open_answers t key (row_of t key) answer permits),
+  ap closed leads ∙ ends_unheld laws t (Called (call.OpenKey key) answer),
+)
+
+pub open_leaves : (laws : PassOver) (t u : Table) (key : Key) (answer : Reply) → closed t ≡ t → u ≡ closed (after_event t (Called (call.OpenKey key) answer)) → u ≡ t
+open_leaves laws t u key answer unheld leads = leads ∙ laws.no_change t (Called (call.OpenKey key) answer) refl ∙ unheld

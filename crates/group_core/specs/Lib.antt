@@ -1,3 +1,4 @@
 pub mod GroupHistory
 pub mod Value
 pub mod Sample
+pub mod InCore

@@ -1,7 +1,8 @@
 // A group: its state and its history.
 
-ghost use Rattle.std.specs.Prelude.{◌≡◌, ◌≤◌, ◌+◌, ◌∷◌, ◌++◌, [], true, IsOkAnd, OnOk};
+ghost use Rattle.std.specs.Prelude.{◌≡◌, ◌≤◌, ◌+◌, ◌∷◌, ◌++◌, ℕ, [], true, IsOkAnd, OnOk};
 ghost use Rattle.life_table.specs.declared.table.Table.{Table};
+ghost use Rattle.group_core.specs.InCore.{StaysInCore};
 ghost use Rattle.group_core.specs.GroupHistory.{HappensUnheld, IsInGroup, LegalGroupHistory};
 
 use crate::GroupTable;
@@ -72,7 +73,9 @@ impl<S: GroupTable + Drop> Group<S> {
         ensures group { S.group self.new.state ≡ S.group self.old.state }
         ensures table { S.table self.new.state ≡ S.table self.old.state }
         ensures changes { (next : S.Change) (u : Table) → S.takes self.old.state next u → S.takes self.new.state next u }
-        ensures stays { S.stays self.old.state self.new.state }
+        ensures cached { (agino : ℕ) → S.cached self.new.state agino ≡ S.cached self.old.state agino }
+        ensures same { self.new.state ≡ S.with_room self.old.state (S.room self.new.state) }
+        ensures kept { (self.old.spare ≤ self.new.spare) × (S.room self.old.state ≤ S.room self.new.state) }
         ensures room { OnOk result ((1 ≤ self.new.spare) × (1 ≤ S.room self.new.state)) }
     {
         self.state.reserve()?;
@@ -113,6 +116,7 @@ impl<S: GroupTable + Drop> Group<S> {
         requires room_of_state { 1 ≤ S.room self.old.state }
         ensures group { S.group self.new.state ≡ S.group self.old.state }
         ensures table { (u : Table) → S.takes self.old.state next u → S.table self.new.state ≡ u }
+        ensures cached { (agino : ℕ) → StaysInCore (S.cached self.old.state agino) (S.cached self.new.state agino) }
         ensures applied { S.applied self.old.state next self.new.state }
         ensures history { self.new.history ≡ self.old.history ++ entry ∷ [] }
         ensures room { self.old.spare ≤ self.new.spare + 1 }

@@ -3,6 +3,7 @@
 ghost use Rattle.std.specs.Prelude.{◌≡◌, ◌≤◌, ◌+◌, ℕ, Bool, true, false, OnOk};
 ghost use Rattle.life_table.specs.declared.table.Table.{Table};
 ghost use Rattle.log_record.specs.declared.image.Commit.{Commit};
+ghost use Rattle.group_core.specs.InCore.{Cached, StaysInCore};
 
 use life_ports::NoMemory;
 use log_record::Commit;
@@ -42,8 +43,11 @@ pub trait GroupTable {
     /// The change was made on this value as it stands, and takes its table to that one.
     ghost takes: { Self → Self.Change → Table → Type 0 };
 
-    /// What else a kind of value says of itself, before and after room was made.
-    ghost stays: { Self → Self → Type 0 };
+    /// What it keeps in core of the inode of each number of its group.
+    ghost cached: { Self → ℕ → Cached };
+
+    /// The same value, with room for so many changes.
+    ghost with_room: { Self → ℕ → Self };
 
     /// What else it says of itself, before and after a change.
     ghost applied: { Self → Self.Change → Self → Type 0 };
@@ -53,7 +57,8 @@ pub trait GroupTable {
         ensures group { group self.new ≡ group self.old }
         ensures table { table self.new ≡ table self.old }
         ensures changes { (next : Self.Change) (u : Table) → takes self.old next u → takes self.new next u }
-        ensures stays { stays self.old self.new }
+        ensures cached { (agino : ℕ) → cached self.new agino ≡ cached self.old agino }
+        ensures same { self.new ≡ with_room self.old (room self.new) }
         ensures kept { room self.old ≤ room self.new }
         ensures room { OnOk result (1 ≤ room self.new) };
 
@@ -64,8 +69,16 @@ pub trait GroupTable {
         requires room { 1 ≤ room self.old }
         ensures group { group self.new ≡ group self.old }
         ensures table { (u : Table) → takes self.old next u → table self.new ≡ u }
+        ensures cached { (agino : ℕ) → StaysInCore (cached self.old agino) (cached self.new agino) }
         ensures applied { applied self.old next self.new }
         ensures room { room self.old ≤ room self.new + 1 };
+
+    /// The room is all that the number says: with its own room a value is itself, and the last number is the one that counts.
+    ghost has_room: { (value : Self) (n : ℕ) → room (with_room value n) ≡ n };
+
+    ghost own_room: { (value : Self) → with_room value (room value) ≡ value };
+
+    ghost last_room: { (value : Self) (m n : ℕ) → with_room (with_room value m) n ≡ with_room value n };
 
     /// A change whose commit was handed out is still the change that was made on the value.
     ghost outlives: { (value : Self) (before after : Self.Change) (u : Table) → Self.Change.hands_out before after

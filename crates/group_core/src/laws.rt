@@ -3,6 +3,7 @@
 ghost use Rattle.std.specs.Prelude.{◌≡◌, ℕ, List, length, take};
 ghost use Rattle.life_table.specs.declared.key.Key.{Key};
 ghost use Rattle.life_table.specs.declared.types.Call.{Call};
+ghost use Rattle.life_table.specs.declared.types.Call.TheVariants.{OpenKey};
 ghost use Rattle.life_table.specs.declared.types.Reply.{Reply};
 ghost use Rattle.life_table.specs.declared.types.Event.TheVariants.{Called, Freed};
 ghost use Rattle.life_table.specs.declared.types.Entry.{Entry};
@@ -31,10 +32,14 @@ pub fn histories_lead_to_one_table()
     tables_stay_well_formed();
 }
 
-/// A law: what legally happens to a table, holds aside, is what may happen to it without holds; but for a call that takes a hold or gives one up.
+/// A law: what legally happens to a table, holds aside, is what may happen to it without holds; but for a close, which has no entry there. An open leaves a
+/// table without holds.
 pub fn legal_events_happen_unheld()
     ensures call { (t u : Table) (called : Call) (answer : Reply) → IsNoHold called → Legal t called answer u
         → HappensUnheld (closed t) (Called called answer) (closed u) }
+    ensures open { (t u : Table) (key : Key) (answer : Reply) → Legal t (OpenKey key) answer u
+        → HappensUnheld (closed t) (Called (OpenKey key) answer) (closed u) }
+    ensures open_leaves { (t u : Table) (key : Key) (answer : Reply) → closed t ≡ t → HappensUnheld t (Called (OpenKey key) answer) u → u ≡ t }
     ensures free { (t u : Table) (key : Key) → Frees t key u → HappensUnheld (closed t) (Freed key) (closed u) }
 {
     changes_pass_over_holds();

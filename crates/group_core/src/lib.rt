@@ -2,12 +2,12 @@
 #![tactic(auto)]
 
 mod group;
-mod laws;
 mod group_table;
+mod laws;
 
 pub use group::{Group, begin_group};
-pub use laws::{histories_lead_to_one_table, legal_events_happen_unheld};
 pub use group_table::{GroupTable, Staged};
+pub use laws::{histories_lead_to_one_table, legal_events_happen_unheld};
 
 #[cfg(test)]
 mod tests;

@@ -68,7 +68,8 @@ impl Staged for Relink {
 
 impl GroupTable for Sample {
     ghost use Rattle.std.specs.Prelude.{◌≡◌};
-    ghost use Rattle.std.proofs.Common.{sym, ap, ◌∙◌};
+    ghost use Rattle.std.proofs.Common.{refl, sym, ap, ◌∙◌};
+    ghost use Rattle.group_core.specs.InCore.{uncached};
     ghost use Rattle.group_core.specs.Sample.{sample_table};
 
     type Change = Relink;
@@ -81,7 +82,9 @@ impl GroupTable for Sample {
 
     ghost takes = { λ s next u. (next.from ≡ s.links) × (u ≡ sample_table next.to) };
 
-    ghost stays = { λ before after. before.links ≡ after.links };
+    ghost cached = { λ _ _. uncached };
+
+    ghost with_room = { λ s n. record { links = s.links; room = n } };
 
     ghost applied = { λ _ next after. after.links ≡ next.to };
 
@@ -94,6 +97,12 @@ impl GroupTable for Sample {
         self.links = next.to;
         self.room -= 1;
     }
+
+    ghost has_room = { λ value n. refl };
+
+    ghost own_room = { λ value. refl };
+
+    ghost last_room = { λ value m n. refl };
 
     ghost outlives = { λ value before after u same takes. (sym same.0 ∙ takes.0, takes.1 ∙ ap sample_table same.1) };
 }

@@ -1,6 +1,6 @@
 // What the definitions have been proved to mean: each law is the contract of a function that does nothing.
 
-ghost use Rattle.std.specs.Prelude.{◌≡◌, ◌≢◌, ◌↔◌, ◌<◌, ◌≤◌, ◌+◌, ℕ, true, false, List, IsSome, IsSomeAnd, length, take};
+ghost use Rattle.std.specs.Prelude.{◌≡◌, ◌≢◌, ◌↔◌, ◌⊎◌, ◌<◌, ◌≤◌, ◌+◌, ℕ, true, false, List, IsSome, IsSomeAnd, length, take};
 ghost use Rattle.std.specs.List.{AllByRecursion};
 ghost use Rattle.std.specs.Option.{option_map};
 ghost use Rattle.life_table.specs.declared.key.Key.{Key};
@@ -13,12 +13,12 @@ ghost use Rattle.life_table.specs.declared.table.Table.{Table};
 ghost use Rattle.life_limits.specs.declared.TheConstants.{MAX_BLOCKS, MAX_GROUPS, MIN_BLOCKS, VERSION};
 ghost use Rattle.life_table.specs.Table.{empty_table, group_number, group_at, inode_of, row_of};
 ghost use Rattle.life_table.specs.Space.{times};
-ghost use Rattle.life_table.specs.Legal.{Awaits, Legal, Permits, Frees, IsOpen, IsOfTable, CanMake, IsNoCut, IsNoHold, free_in, free_of, last_blocks};
+ghost use Rattle.life_table.specs.Legal.{Awaits, Legal, Permits, Frees, IsDeviceFault, IsOpen, IsOfTable, CanMake, IsNoCut, IsNoHold, free_in, free_of, last_blocks};
 ghost use Rattle.life_table.specs.Replies.{reply_of};
 ghost use Rattle.life_table.specs.WellFormed.{IsDataBlock, IsRow, IsTable};
-ghost use Rattle.life_table.specs.History.{Leads, LegalHistory, holds, After, after_event, changes, closed, is_change, recovered, recovered_inode, orphans, frees_of};
+ghost use Rattle.life_table.specs.History.{Leads, LegalHistory, holds, After, after_event, changes, closed, closed_row, is_change, recovered, recovered_inode, orphans, frees_of};
 
-use crate::types::{Call, Reply};
+use crate::types::{Call, Event, Reply};
 
 /// A law: a table without chunks is well formed, and what legally happens to a well formed table leaves a well formed one. So no block comes to be in two rows,
 /// in a row and a chunk, or twice in one, and no number comes to have two rows.
@@ -74,9 +74,24 @@ pub fn changes_tell_the_table()
 pub fn changes_pass_over_holds()
     ensures permits { (t : Table) (called : Call) (answer : Reply) → IsNoHold called → (Permits (closed t) called answer ↔ Permits t called answer) }
     ensures awaits { (t : Table) (key : Key) → IsSomeAnd (row_of t key) Awaits → IsSomeAnd (row_of (closed t) key) Awaits }
+    ensures rows { (t : Table) (key : Key) → row_of (closed t) key ≡ closed_row (row_of t key) }
     ensures change { (t : Table) (event : Event) → is_change event ≡ true → closed (after_event t event) ≡ closed (after_event (closed t) event) }
     ensures no_change { (t : Table) (event : Event) → is_change event ≡ false → closed (after_event t event) ≡ closed t }
     ensures twice { (t : Table) → closed (closed t) ≡ closed t }
+{}
+
+/// A law: an open, a close, a look at a row, what keeps house and what asks the device are no changes, whatever they are answered. What a home is answered is
+/// that it is done, or a fault of the device.
+pub fn other_calls_change_nothing()
+    ensures open { (key : Key) (answer : Reply) → is_change (Event.Called (Call.OpenKey key) answer) ≡ false }
+    ensures close { (key : Key) (answer : Reply) → is_change (Event.Called (Call.CloseKey key) answer) ≡ false }
+    ensures stat { (key : Key) (answer : Reply) → is_change (Event.Called (Call.Stat key) answer) ≡ false }
+    ensures gc { (answer : Reply) → is_change (Event.Called Call.Gc answer) ≡ false }
+    ensures flush { (g : ℕ) (answer : Reply) → is_change (Event.Called (Call.FlushInodes g) answer) ≡ false }
+    ensures reclaim { (g : ℕ) (answer : Reply) → is_change (Event.Called (Call.Reclaim g) answer) ≡ false }
+    ensures sync { (answer : Reply) → is_change (Event.Called Call.Sync answer) ≡ false }
+    ensures home { (answer : Reply) → is_change (Event.Called Call.Home answer) ≡ false }
+    ensures home_answers { (t u : Table) (answer : Reply) → Legal t Call.Home answer u → (answer ≡ Reply.Done) ⊎ IsDeviceFault answer }
 {}
 
 /// A law: recovery ends the row of each inode without links once, by one rise of its generation, and leaves the other

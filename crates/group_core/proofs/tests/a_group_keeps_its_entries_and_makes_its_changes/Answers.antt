@@ -7,7 +7,7 @@ use Rattle.group_core.proofs.tests.a_group_keeps_its_entries_and_makes_its_chang
 pub commit-requires-clause-legal : goal.commit-requires-clause-legal
 commit-requires-clause-legal g c =
     let one : c.reserve-2.new.self.state.links ≡ 1 =
-    sym c.reserve-2.ensures.stays ∙ ap (λ (s : Sample). s.links) c.note.ensures.state ∙ sym c.reserve.ensures.stays ∙ ap (λ (s : Sample). s.links) c.in_ok-group.ensures.begun.0 in
+    ap (λ (s : Sample). s.links) c.reserve-2.ensures.same ∙ ap (λ (s : Sample). s.links) c.note.ensures.state ∙ ap (λ (s : Sample). s.links) c.reserve.ensures.same ∙ ap (λ (s : Sample). s.links) c.in_ok-group.ensures.begun.0 in
     let same = c.take_commit.ensures.same in (
       sample_table 0,
       (sym same.0 ∙ c.new-unlink.ensures.from ∙ sym one, ap sample_table (sym c.new-unlink.ensures.to ∙ same.1)),

@@ -1,4 +1,4 @@
-use Rattle.life_table.proofs.Closed.{after_keeps, closed-twice, event_changes, permits-closed, awaits-closed}
+use Rattle.life_table.proofs.Closed.{after_keeps, closed-twice, event_changes, permits-closed, awaits-closed, row_of-closed}
 use Rattle.life_table.proofs.laws.changes_pass_over_holds.Goals as goal
 
 pub returns-clause-change : goal.returns-clause-change
@@ -15,3 +15,6 @@ returns-clause-permits c = permits-closed
 
 pub returns-clause-awaits : goal.returns-clause-awaits
 returns-clause-awaits c = awaits-closed
+
+pub returns-clause-rows : goal.returns-clause-rows
+returns-clause-rows c = row_of-closed
