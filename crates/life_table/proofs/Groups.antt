@@ -126,7 +126,7 @@ find-passes p (y ∷ xs) x at =
     ] refl at
 
 -- the tests of a range all pass
-range_all : (p : ℕ → Bool) (a n b : ℕ) → list_all p (range_with_len a n) ≡ true → a ≤ b → b < a + n → p b ≡ true
+pub range_all : (p : ℕ → Bool) (a n b : ℕ) → list_all p (range_with_len a n) ≡ true → a ≤ b → b < a + n → p b ≡ true
 range_all p a zero b all low high = absurd (omega arith)
 range_all p a (suc n) b all low high =
     let parts = and_parts (p a) (list_all p (range_with_len (a + 1) n)) all in

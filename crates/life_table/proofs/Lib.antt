@@ -14,3 +14,4 @@ pub mod GivenBack
 pub mod Frees
 pub mod Holds
 pub mod Numbers
+pub mod Lowest

@@ -1,5 +1,5 @@
 -- What is free: blocks, numbers of inodes, and places for chunks.
-use Rattle.std.specs.Prelude.{◌==◌, ◌+◌, ◌*◌, ◌/◌, ◌%◌, ◌&&◌, ℕ, Bool, List, [], ◌∷◌, ◌++◌, Option, None, Some, IsSome, IsSomeAnd, IsTrue, is_some, is_none, if◌then◌else◌, nat_le, nat_lt, length, replicate, slice_get}
+use Rattle.std.specs.Prelude.{◌≡◌, ◌≤◌, ◌<◌, ◌==◌, ◌+◌, ◌*◌, ◌/◌, ◌%◌, ◌&&◌, ℕ, Bool, true, List, [], ◌∷◌, ◌++◌, Option, None, Some, IsSome, IsSomeAnd, IsTrue, is_some, is_none, if◌then◌else◌, nat_le, nat_lt, length, replicate, slice_get}
 use Rattle.std.specs.List.{filter, find, flat_map, list_all, range_with_len}
 use Rattle.life_limits.specs.declared.TheConstants.{BLOCK_SECTORS, CHUNK_INODES, FIRST_DATA_BLOCK, GROUP_NUMBERS, MAX_CHUNKS, MAX_GENERATION}
 use Rattle.life_table.specs.declared.key.Key.{Key}
@@ -46,6 +46,10 @@ free_blocks blocks group = filter (is_free_block blocks group) (range_with_len 0
 -- whether a block is a multiple of 8 and begins 8 free blocks
 unfoldable pub begins_run : ℕ → Group → ℕ → Bool
 begins_run blocks group block = (block % chunk_length == 0) && list_all (is_free_block blocks group) (range_with_len block chunk_length)
+
+-- what the test says
+abbrev pub BeginsFreeRun : ℕ → Group → ℕ → Type 0
+BeginsFreeRun blocks group block = (block % chunk_length ≡ 0) × ((b : ℕ) → block ≤ b → b < block + chunk_length → is_free_block blocks group b ≡ true)
 
 -- where the next chunk would be: at the lowest such block, where the group has fewer chunks than it can
 unfoldable pub chunk_place : ℕ → Group → Option ℕ

@@ -1,6 +1,6 @@
 // What the definitions have been proved to mean: each law is the contract of a function that does nothing.
 
-ghost use Rattle.std.specs.Prelude.{◌≡◌, ◌≢◌, ◌↔◌, ◌⊎◌, ◌<◌, ◌≤◌, ◌+◌, ℕ, true, false, List, IsSome, IsSomeAnd, length, take};
+ghost use Rattle.std.specs.Prelude.{◌≡◌, ◌≢◌, ◌↔◌, ◌⊎◌, ◌<◌, ◌≤◌, ◌+◌, ℕ, true, false, List, None, Some, IsSome, IsSomeAnd, length, take};
 ghost use Rattle.std.specs.List.{AllByRecursion};
 ghost use Rattle.std.specs.Option.{option_map};
 ghost use Rattle.life_table.specs.declared.key.Key.{Key};
@@ -10,9 +10,9 @@ ghost use Rattle.life_table.specs.declared.types.Reply.{Reply};
 ghost use Rattle.life_table.specs.declared.types.Entry.{Entry};
 ghost use Rattle.life_table.specs.declared.types.Event.{Event};
 ghost use Rattle.life_table.specs.declared.table.Table.{Table};
-ghost use Rattle.life_limits.specs.declared.TheConstants.{MAX_BLOCKS, MAX_GROUPS, MIN_BLOCKS, VERSION};
-ghost use Rattle.life_table.specs.Table.{empty_table, group_number, group_at, inode_of, row_of};
-ghost use Rattle.life_table.specs.Space.{times};
+ghost use Rattle.life_limits.specs.declared.TheConstants.{MAX_BLOCKS, MAX_CHUNKS, MAX_GROUPS, MIN_BLOCKS, VERSION};
+ghost use Rattle.life_table.specs.Table.{Group, empty_table, group_number, group_at, inode_of, row_of};
+ghost use Rattle.life_table.specs.Space.{BeginsFreeRun, chunk_place, times};
 ghost use Rattle.life_table.specs.Legal.{Awaits, Legal, Permits, Frees, IsDeviceFault, IsOpen, IsOfTable, CanMake, IsNoCut, IsNoHold, free_in, free_of, last_blocks};
 ghost use Rattle.life_table.specs.Replies.{reply_of};
 ghost use Rattle.life_table.specs.WellFormed.{IsDataBlock, IsRow, IsTable};
@@ -78,6 +78,17 @@ pub fn changes_pass_over_holds()
     ensures change { (t : Table) (event : Event) → is_change event ≡ true → closed (after_event t event) ≡ closed (after_event (closed t) event) }
     ensures no_change { (t : Table) (event : Event) → is_change event ≡ false → closed (after_event t event) ≡ closed t }
     ensures twice { (t : Table) → closed (closed t) ≡ closed t }
+{}
+
+/// A law: the next chunk has the lowest place that there is: a multiple of 8 from which 8 blocks are free, in a group that may have one chunk more; and it has
+/// none only where there is none.
+pub fn chunks_have_the_lowest_place()
+    ensures place { (blocks : ℕ) (group : Group) (block : ℕ) → chunk_place blocks group ≡ Some block
+        → (length group < MAX_CHUNKS) × (block < blocks) × BeginsFreeRun blocks group block }
+    ensures least { (blocks : ℕ) (group : Group) (block other : ℕ) → chunk_place blocks group ≡ Some block → other < block
+        → ¬ BeginsFreeRun blocks group other }
+    ensures none { (blocks : ℕ) (group : Group) (block : ℕ) → chunk_place blocks group ≡ None → length group < MAX_CHUNKS → block < blocks
+        → ¬ BeginsFreeRun blocks group block }
 {}
 
 /// A law: an open, a close, a look at a row, what keeps house and what asks the device are no changes, whatever they are answered. What a home is answered is
