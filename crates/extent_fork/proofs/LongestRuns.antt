@@ -7,7 +7,7 @@ use Rattle.std.proofs.lemmas.List.{drop_more, drop_all, take_more_set}
 use Rattle.std.proofs.Math.ListN.{set}
 use Rattle.std.proofs.lemmas.List.Concat.{flat_map-cons}
 use Rattle.extent_fork.specs.declared.extent.Extent.{Extent}
-use Rattle.extent_fork.specs.Runs.{single, run_end, grown, runs_from, runs, blocks_of, AreApart, AreLongestRuns}
+use Rattle.extent_fork.specs.Runs.{single, run_end, grown, runs_from, runs, blocks_of, AreApart, AreLongestRuns, LongestRunsAreOne}
 use Rattle.extent_fork.specs.Forks.{IsRun, AreRuns}
 use Rattle.extent_fork.specs.Reading.{runs_in, run_in, ForksAreRead}
 use Rattle.extent_fork.proofs.Lists.{AreApartAfter, with_first}
@@ -183,14 +183,70 @@ counted : (list : List Extent) → AllByRecursion IsRun list → AllByRecursion 
 counted [] all = tt
 counted (run ∷ list) all = (all.0.count, counted list all.1)
 
-runs_of_blocks : (list : List Extent) → AreRuns list → runs (flat_map blocks_of list) ≡ list
-runs_of_blocks [] are = refl
-runs_of_blocks (run ∷ list) are =
+longest_again : (list : List Extent) → AllByRecursion (λ one. 1 ≤ one.count) list → AreApart list → runs (flat_map blocks_of list) ≡ list
+longest_again [] counts apart = refl
+longest_again (run ∷ list) counts apart =
     let m : ℕ = run.count - 1 in
-    let e : run.count ≡ suc m = let some = are.each.0.count in omega arith in
+    let e : run.count ≡ suc m = let some = counts.0 in omega arith in
     let rest : List ℕ = flat_map blocks_of list in
     ap runs (flat_map-cons blocks_of run list ∙ ap (λ (l : List ℕ). l ++ rest) (first_block run m e))
-    ∙ again_from run m rest e ∙ runs_again run list (counted list are.each.1) are.apart
+    ∙ again_from run m rest e ∙ runs_again run list counts.1 apart
+
+runs_of_blocks : (list : List Extent) → AreRuns list → runs (flat_map blocks_of list) ≡ list
+runs_of_blocks list are = longest_again list (counted list are.each) are.apart
+
+-- ---- no fewer runs tell the same blocks
+
+-- how many runs follow a run is told by its end alone
+same_end : (r s : Extent) (blocks : List ℕ) → run_end r ≡ run_end s → length (runs_from r blocks) ≡ length (runs_from s blocks)
+same_end r s [] e = refl
+same_end r s (block ∷ blocks) e =
+    either (eqb block (run_end r)) (eqb block (run_end s)) (ap (eqb block) e) (same_end (grown r) (grown s) blocks (omega (arith, e)))
+  where
+    either : (b c : Bool) → b ≡ c → length (runs_from (grown r) blocks) ≡ length (runs_from (grown s) blocks)
+        → length (cond b (runs_from (grown r) blocks) (r ∷ runs_from (single block) blocks)) ≡ length (cond c (runs_from (grown s) blocks) (s ∷ runs_from (single block) blocks))
+    either true true same more = more
+    either false false same more = refl
+    either true false same more = absurd cc
+    either false true same more = absurd cc
+
+-- a run in front of blocks adds one run at most
+one_more : (run : Extent) (blocks : List ℕ) → length (runs_from run blocks) ≤ length (runs blocks) + 1
+one_more run [] = omega arith
+one_more run (block ∷ blocks) = either (eqb_tells block (run_end run))
+  where
+    either : ((eqb block (run_end run) ≡ true) × (block ≡ run_end run)) ⊎ ((eqb block (run_end run) ≡ false) × (block ≢ run_end run))
+        → length (runs_from run (block ∷ blocks)) ≤ length (runs_from (single block) blocks) + 1
+    either (inl p) =
+        let e = p.1 in
+        let same = ap (length {A = Extent}) (chosen (eqb block (run_end run)) (runs_from (grown run) blocks) (run ∷ runs_from (single block) blocks) p.0) in
+        let many : length (runs_from (grown run) blocks) ≡ length (runs_from (single block) blocks) = same_end (grown run) (single block) blocks (omega arith) in
+        omega (arith, same, many)
+    either (inr p) =
+        let same = ap (length {A = Extent}) (left_out (eqb block (run_end run)) (runs_from (grown run) blocks) (run ∷ runs_from (single block) blocks) p.0) in
+        omega (arith, same)
+
+few_again : (list : List Extent) → length (runs (flat_map blocks_of list)) ≤ length list
+few_again [] = omega arith
+few_again (run ∷ list) = by run.count refl (few_again list)
+  where
+    by : (n : ℕ) → run.count ≡ n → length (runs (flat_map blocks_of list)) ≤ length list → length (runs (flat_map blocks_of (run ∷ list))) ≤ length (run ∷ list)
+    by zero e few =
+        let same : flat_map blocks_of (run ∷ list) ≡ flat_map blocks_of list =
+        flat_map-cons blocks_of run list ∙ ap (λ (n : ℕ). range_with_len run.start n ++ flat_map blocks_of list) e in
+        omega (arith, few, ap (λ (l : List ℕ). length (runs l)) same)
+    by (suc m) e few =
+        let rest : List ℕ = flat_map blocks_of list in
+        let same : runs (flat_map blocks_of (run ∷ list)) ≡ runs_from run rest =
+        ap runs (flat_map-cons blocks_of run list ∙ ap (λ (l : List ℕ). l ++ rest) (first_block run m e)) ∙ again_from run m rest e in
+        omega (arith, few, ap (length {A = Extent}) same, one_more run rest)
+
+pub longest_are_one : LongestRunsAreOne
+longest_are_one = record {
+  are = λ blocks. longest blocks (runs blocks) refl;
+  one = λ blocks list are. sym (longest_again list are.counts are.apart) ∙ ap runs are.all;
+  fewest = λ blocks list e. let few = few_again list in omega (arith, few, ap (λ (l : List ℕ). length (runs l)) e);
+}
 
 -- ---- the law
 

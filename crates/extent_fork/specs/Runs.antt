@@ -1,5 +1,5 @@
 -- Lists of blocks as runs.
-use Rattle.std.specs.Prelude.{◌≡◌, ◌≢◌, ◌≤◌, ◌+◌, ◌==◌, ℕ, List, [], ◌∷◌, if◌then◌else◌, ⊤}
+use Rattle.std.specs.Prelude.{◌≡◌, ◌≢◌, ◌≤◌, ◌+◌, ◌==◌, ℕ, List, [], ◌∷◌, length, if◌then◌else◌, ⊤}
 use Rattle.std.specs.List.{range_with_len, flat_map, AllByRecursion}
 use Rattle.extent_fork.specs.declared.extent.Extent.{Extent}
 
@@ -20,7 +20,7 @@ abbrev pub runs_from : Extent → List ℕ → List Extent
 runs_from run [] = run ∷ []
 runs_from run (block ∷ blocks) = if block == run_end run then runs_from (grown run) blocks else run ∷ runs_from (single block) blocks
 
--- the runs of a list of blocks, in its order
+-- the runs of a list of blocks, in its order: the one list of longest runs, as LongestRunsAreOne says
 abbrev pub runs : List ℕ → List Extent
 runs [] = []
 runs (block ∷ blocks) = runs_from (single block) blocks
@@ -40,3 +40,9 @@ pub record AreLongestRuns (blocks : List ℕ) (runs : List Extent) : Type 0 wher
   pub all : flat_map blocks_of runs ≡ blocks
   pub counts : AllByRecursion (λ run. 1 ≤ run.count) runs
   pub apart : AreApart runs
+
+-- Each list of blocks has one list of longest runs, which is `runs` of it, and in no fewer runs can its blocks be told.
+pub record LongestRunsAreOne : Type 0 where
+  pub are : (blocks : List ℕ) → AreLongestRuns blocks (runs blocks)
+  pub one : (blocks : List ℕ) (list : List Extent) → AreLongestRuns blocks list → list ≡ runs blocks
+  pub fewest : (blocks : List ℕ) (list : List Extent) → flat_map blocks_of list ≡ blocks → length (runs blocks) ≤ length list

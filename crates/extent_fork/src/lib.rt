@@ -15,7 +15,7 @@ mod writing;
 
 pub use extent::Extent;
 pub use fault::{ForkFault, RunsFault};
-pub use laws::encoded_forks_are_read;
+pub use laws::{encoded_forks_are_read, longest_runs_are_one};
 pub use reading::read_fork;
 pub use runs::{fill_runs, runs_of};
 pub use writing::write_fork;
