@@ -7,7 +7,7 @@ use Rattle.life_bytes.specs.SectorBytes.{bytes_of}
 use Rattle.geometry.specs.declared.shape.Geometry.{Geometry}
 use Rattle.inobt_leaf.specs.declared.chunk.ChunkRec.{ChunkRec}
 use Rattle.inobt_leaf.specs.Chunks.{IsLeaf}
-use Rattle.inobt_leaf.specs.Pages.{page_encoding, chunks_in}
+use Rattle.inobt_leaf.specs.Pages.{no_siblings, page_encoding, chunks_in}
 use Rattle.inobt_leaf.specs.PageLaws.{PagesAreRead}
 use Rattle.sound_image.specs.Places.{bytes_at, bytes_from, part, sector_in}
 use Rattle.sound_image.specs.Reading.{header_of, page_sector, records_of}
@@ -34,7 +34,7 @@ shown_bytes image s n sectors shows long = ap (λ (k : ℕ). flat_map (bytes_at 
 pub records_read : (l : PagesAreRead) (g : Geometry) (image : List Sector) (group at : ℕ) (bytes : List ℕ) (leaf : List ChunkRec) → bytes_from image (page_sector g image group) 8 ≡ bytes
     → length g.uuid ≡ 16 → IsLeaf leaf → bytes ≡ page_encoding leaf group at g.uuid → records_of g image group ≡ leaf
 unfolding records_of
-records_read l g image group at bytes leaf shown wide is encoded = ap chunks_in (shown ∙ encoded) ∙ l.read leaf group at g.uuid is wide
+records_read l g image group at bytes leaf shown wide is encoded = ap chunks_in (shown ∙ encoded) ∙ l.read no_siblings leaf group at g.uuid is wide
 
 -- each sector of a page that is shown is the part of its bytes
 pub shown_parts : (g : Geometry) (image : List Sector) (group n : ℕ) (sectors : List Sector) → Shows image (page_sector g image group) sectors → length sectors ≡ n
@@ -66,7 +66,7 @@ pub page_encoded : (l : PagesAreRead)
 page_encoded l whole g image group at bytes shown place wide right =
     let page : ℕ → List ℕ = λ s. page_encoding (records_of g image group) group s g.uuid in
     sym shown
-    ∙ whole image (page (page_sector g image group)) (page_sector g image group) 8 (l.long (records_of g image group) group (page_sector g image group) g.uuid right.leaf wide) right.encoded
+    ∙ whole image (page (page_sector g image group)) (page_sector g image group) 8 (l.long no_siblings (records_of g image group) group (page_sector g image group) g.uuid right.leaf wide) right.encoded
     ∙ ap page place
 
 -- a leaf that is read where its page is right has its chunks among the data blocks

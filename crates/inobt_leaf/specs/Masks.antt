@@ -1,6 +1,6 @@
 -- Masks of 64 bits: bit i has the value 2^i.
-use Rattle.std.specs.Prelude.{◌^◌, ◌==◌, ℕ, Bool, bit_and, bit_or}
-use Rattle.std.specs.Int.{bit_at, bit_not, w64}
+use Rattle.std.specs.Prelude.{◌^◌, ℕ, bit_and, bit_or}
+use Rattle.std.specs.Int.{bit_not, w64}
 
 -- the mask with bit i clear, and with bit i set
 abbrev pub without_bit : ℕ → ℕ → ℕ

@@ -1,10 +1,11 @@
--- A leaf as a page of 4,096 bytes: the block of an inode btree that has no sibling, at level 0.
-use Rattle.std.specs.Prelude.{◌+◌, ◌*◌, ℕ, List, [], ◌∷◌, ◌++◌, length, replicate, map}
+-- A leaf as a page of 4,096 bytes: a block of an inode btree at level 0.
+use Rattle.std.specs.Prelude.{◌+◌, ◌*◌, ◌<◌, ℕ, Option, None, Some, IfSome, List, [], ◌∷◌, ◌++◌, length, replicate, map}
 use Rattle.std.specs.List.{range_with_len}
 use Rattle.life_limits.specs.declared.TheConstants.{BLOCK_BYTES}
 use Rattle.life_bytes.specs.Fields.{field}
 use Rattle.life_bytes.specs.Pieces.{Field, number, piece, placed, sealed}
 use Rattle.inobt_leaf.specs.declared.chunk.ChunkRec.{ChunkRec}
+use Rattle.inobt_leaf.specs.declared.siblings.Siblings.{Siblings}
 
 -- `IAB3` in ASCII
 abbrev pub page_magic : ℕ
@@ -14,14 +15,27 @@ page_magic = 0x4941_4233
 abbrev pub no_sibling : ℕ
 no_sibling = 0xFFFF_FFFF
 
--- the header of a leaf of so many records, of a group, whose first sector has this place in the image; the level and
--- the lsn are zero
-abbrev pub page_header : ℕ → ℕ → ℕ → List ℕ → List Field
-page_header count group at uuid =
+abbrev pub sibling_number : Option ℕ → ℕ
+sibling_number None = no_sibling
+sibling_number (Some block) = block
+
+-- no block is the number that stands where there is none
+pub record AreSiblings (siblings : Siblings) : Type 0 where
+  pub left : IfSome siblings.left (λ block. block < no_sibling)
+  pub right : IfSome siblings.right (λ block. block < no_sibling)
+
+-- the only leaf of a tree has no siblings
+abbrev pub no_siblings : Siblings
+no_siblings = record { left = None; right = None }
+
+-- the header of a leaf between its siblings, of so many records, of a group, whose first sector has this place in the
+-- image; the level and the lsn are zero
+abbrev pub page_header : Siblings → ℕ → ℕ → ℕ → List ℕ → List Field
+page_header siblings count group at uuid =
     number 0 4 page_magic
     ∷ number 6 2 count
-    ∷ number 8 4 no_sibling
-    ∷ number 12 4 no_sibling
+    ∷ number 8 4 (sibling_number siblings.left)
+    ∷ number 12 4 (sibling_number siblings.right)
     ∷ number 16 8 at
     ∷ piece 32 16 uuid
     ∷ number 48 4 group
@@ -44,9 +58,14 @@ chunk_records place (chunk ∷ chunks) = chunk_rows place chunk ++ chunk_records
 unfoldable pub blank_page : List ℕ
 blank_page = replicate BLOCK_BYTES 0
 
--- the page: its fields over zeros, and the checksum at byte 52
-unfoldable pub page_encoding : List ChunkRec → ℕ → ℕ → List ℕ → List ℕ
-page_encoding chunks group at uuid = sealed 52 (placed (page_header (length chunks) group at uuid ++ chunk_records 56 chunks) blank_page)
+-- the page of a leaf between its siblings: its fields over zeros, and the checksum at byte 52
+unfoldable pub leaf_encoding : Siblings → List ChunkRec → ℕ → ℕ → List ℕ → List ℕ
+leaf_encoding siblings chunks group at uuid =
+    sealed 52 (placed (page_header siblings (length chunks) group at uuid ++ chunk_records 56 chunks) blank_page)
+
+-- the page of the only leaf of a tree
+abbrev pub page_encoding : List ChunkRec → ℕ → ℕ → List ℕ → List ℕ
+page_encoding chunks group at uuid = leaf_encoding no_siblings chunks group at uuid
 
 -- the record that stands at a place
 abbrev pub chunk_at : List ℕ → ℕ → ChunkRec

@@ -1,6 +1,6 @@
 // The leaf in memory.
 
-ghost use Rattle.std.specs.Prelude.{◌≡◌, ◌↔◌, ◌+◌, ◌-◌, ◌%◌, ◌≤◌, ◌<◌, ℕ, true, false, [], length, find, map, None, IsSomeAnd, IsOk, Err, OnOk, OnErr};
+ghost use Rattle.std.specs.Prelude.{◌≡◌, ◌↔◌, ◌+◌, ◌-◌, ◌%◌, ◌≤◌, ◌<◌, ℕ, true, false, [], length, find, map, None, IsSomeAnd, IfOk, IsOk, Err, OnOk, OnErr};
 ghost use Rattle.life_bytes.specs.Bits.{is_set};
 ghost use Rattle.life_limits.specs.declared.TheConstants.{MAX_LEAF_RECORDS};
 ghost use Rattle.inobt_leaf.specs.Chunks.{chunk_holds, IsLeaf, after_take, after_give, where_held, with_whole_chunk};
@@ -8,7 +8,7 @@ ghost use Rattle.inobt_leaf.specs.Chunks.{chunk_holds, IsLeaf, after_take, after
 use crate::chunk::ChunkRec;
 use crate::records::{count_up_to, find_chunk, give_in, take_in};
 use life_limits::{CHUNK_INODES, MAX_LEAF_RECORDS};
-use std::alloc::{AllocFailed, Global};
+use std::alloc::{AllocError, AllocFailed, Global};
 use std::marker::Model;
 
 /// How many chunks a leaf holds.
@@ -62,11 +62,20 @@ impl Leaf {
     }
 
     /// The leaf of these chunks.
-    pub(crate) fn of(chunks: Vec<ChunkRec>) -> Self
+    pub fn of(chunks: Vec<ChunkRec>) -> Self
         requires { IsLeaf chunks.items }
         ensures { result ≡ chunks.items }
     {
         Leaf { chunks }
+    }
+
+    /// A leaf of its own with the same chunks.
+    pub fn copied(&self, alloc: Global) -> Result<Self, AllocError>
+        ensures { IfOk result (λ leaf. leaf ≡ self.now) }
+    {
+        Ok(Leaf {
+            chunks: self.chunks.as_slice().to_vec(alloc)?,
+        })
     }
 
     /// The chunks, ascending.

@@ -8,11 +8,13 @@ mod masks;
 mod reading;
 mod records;
 mod sectors;
+mod siblings;
 mod writing;
 
 pub use chunk::ChunkRec;
-pub use laws::{pages_tell_leaves, encoded_pages_are_read};
+pub use laws::{encoded_pages_are_read, pages_tell_leaves};
 pub use leaf::{Leaf, LeafFault};
 pub use masks::masks_change_by_one_bit;
-pub use reading::{PageFault, read_page};
-pub use writing::{write_empty_page, write_page};
+pub use reading::{PageFault, read_leaf, read_page};
+pub use siblings::Siblings;
+pub use writing::{write_empty_page, write_leaf, write_page};

@@ -4,16 +4,16 @@ ghost use Rattle.std.specs.Prelude.{◌≡◌, ◌+◌, ◌≤◌, [], length};
 ghost use Rattle.life_limits.specs.declared.TheConstants.{BLOCK_BYTES, MAX_LEAF_RECORDS};
 ghost use Rattle.life_bytes.specs.Pieces.{placed};
 ghost use Rattle.life_bytes.specs.SectorBytes.{bytes_of};
-ghost use Rattle.inobt_leaf.specs.Pages.{page_header, blank_page, chunk_rows, chunk_records, page_encoding};
+ghost use Rattle.inobt_leaf.specs.Pages.{page_header, blank_page, chunk_rows, chunk_records, leaf_encoding, page_encoding};
+ghost use Rattle.inobt_leaf.specs.declared.siblings.Siblings.{Siblings};
 
 use crate::chunk::ChunkRec;
 use crate::leaf::Leaf;
 use crate::sectors::{PAGE_BYTES, scatter};
+use crate::siblings::{Siblings, sibling_number};
 use life_bytes::{Sector, put_crc, put_u16, put_u32, put_u64};
 
 const MAGIC: u32 = 0x4941_4233;
-
-const NO_SIBLING: u32 = u32::MAX;
 
 /// Where the records begin.
 pub const HEADER_BYTES: usize = 56;
@@ -30,14 +30,21 @@ fn blank_page() -> [u8; PAGE_BYTES]
     [0; PAGE_BYTES]
 }
 
-fn put_header(bytes: &mut [u8], count: u16, group: u32, at: u64, uuid: &[u8; 16])
+fn put_header(
+    bytes: &mut [u8],
+    siblings: Siblings,
+    count: u16,
+    group: u32,
+    at: u64,
+    uuid: &[u8; 16],
+)
     requires { length bytes.old ≡ BLOCK_BYTES }
-    ensures { bytes.new ≡ placed (page_header count group at uuid.now) bytes.old }
+    ensures { bytes.new ≡ placed (page_header siblings count group at uuid.now) bytes.old }
 {
     put_u32(bytes, 0, MAGIC);
     put_u16(bytes, 6, count);
-    put_u32(bytes, 8, NO_SIBLING);
-    put_u32(bytes, 12, NO_SIBLING);
+    put_u32(bytes, 8, sibling_number(siblings.left));
+    put_u32(bytes, 12, sibling_number(siblings.right));
     put_u64(bytes, 16, at);
     bytes[32..48].copy_from_slice(uuid);
     put_u32(bytes, 48, group);
@@ -63,18 +70,40 @@ fn put_records(bytes: &mut [u8], chunks: &[ChunkRec])
 }
 
 /// The bytes of the page of a leaf.
-pub fn encode(chunks: &[ChunkRec], group: u32, at: u64, uuid: &[u8; 16]) -> [u8; PAGE_BYTES]
+pub fn encode(
+    siblings: Siblings,
+    chunks: &[ChunkRec],
+    group: u32,
+    at: u64,
+    uuid: &[u8; 16],
+) -> [u8; PAGE_BYTES]
     requires { length chunks.now ≤ MAX_LEAF_RECORDS }
-    ensures { result ≡ page_encoding chunks.now group at uuid.now }
+    ensures { result ≡ leaf_encoding siblings chunks.now group at uuid.now }
 {
     let mut bytes = blank_page();
-    put_header(&mut bytes, chunks.len() as u16, group, at, uuid);
+    put_header(&mut bytes, siblings, chunks.len() as u16, group, at, uuid);
     put_records(&mut bytes, chunks);
     put_crc(&mut bytes, CRC_AT);
     bytes
 }
 
-/// Writes a leaf with no sibling over the 8 sectors of its page. The page stands at block `block` of the group, and
+/// Writes a leaf between its siblings over the 8 sectors of its page, whose first is sector `at` of the image.
+pub fn write_leaf(
+    leaf: &Leaf,
+    siblings: Siblings,
+    group: u32,
+    at: u64,
+    uuid: &[u8; 16],
+    page: &mut [Sector],
+)
+    requires { length page.old ≡ 8 }
+    ensures { bytes_of page.new ≡ leaf_encoding siblings leaf.now group at uuid.now }
+{
+    let bytes = encode(siblings, leaf.chunks(), group, at, uuid);
+    scatter(&bytes, page);
+}
+
+/// Writes the only leaf of a tree over the 8 sectors of its page. The page stands at block `block` of the group, and
 /// its first sector is sector `at` of the image; a leaf names the latter alone.
 pub fn write_page(
     leaf: &Leaf,
@@ -87,8 +116,7 @@ pub fn write_page(
     requires { length page.old ≡ 8 }
     ensures { bytes_of page.new ≡ page_encoding leaf.now group at uuid.now }
 {
-    let bytes = encode(leaf.chunks(), group, at, uuid);
-    scatter(&bytes, page);
+    write_leaf(leaf, Siblings::NONE, group, at, uuid, page);
 }
 
 /// Writes the page of a leaf without chunks, which takes no memory: the place is named as for `write_page`.
@@ -96,6 +124,6 @@ pub fn write_empty_page(group: u32, at: u64, uuid: &[u8; 16], page: &mut [Sector
     requires { length page.old ≡ 8 }
     ensures { bytes_of page.new ≡ page_encoding [] group at uuid.now }
 {
-    let bytes = encode(&[], group, at, uuid);
+    let bytes = encode(Siblings::NONE, &[], group, at, uuid);
     scatter(&bytes, page);
 }

@@ -12,7 +12,7 @@ use Rattle.ag_header.specs.Headers.{IsAgi, FieldsFit, EncodesHeader, header_enco
 use Rattle.inobt_leaf.specs.declared.chunk.ChunkRec.{ChunkRec}
 use Rattle.inobt_leaf.specs.Chunks.{IsLeaf}
 use Rattle.inobt_leaf.specs.Pages.{chunks_in}
-use Rattle.inobt_leaf.specs.Pages.{page_encoding}
+use Rattle.inobt_leaf.specs.Pages.{no_siblings, page_encoding}
 use Rattle.life_table.specs.declared.table.Table.{Table}
 use Rattle.life_table.specs.Table.{Group, group_at}
 use Rattle.life_table.specs.Space.{times}
@@ -129,7 +129,7 @@ pub page_is : (l : Lower) (g : Geometry) (t : Table) (layouts : Layouts) (image 
 unfolding page_bytes
 page_is l g t layouts image group r =
     bytes_from_parts (encoded g t layouts image) (page_bytes g layouts group (group_at t group)) (sector_in g group (page_place layouts group)) 8
-    (l.pages.long (map chunk_record (group_at t group)) group (sector_in g group (page_place layouts group)) g.uuid r.leaf r.uuid)
+    (l.pages.long no_siblings (map chunk_record (group_at t group)) group (sector_in g group (page_place layouts group)) g.uuid r.leaf r.uuid)
     (λ k lt. page_part g t layouts image group k r lt)
 
 pub records_are : (l : Lower) (g : Geometry) (t : Table) (layouts : Layouts) (image : List Sector) (group : ℕ) → IsReady g t layouts image group
@@ -138,7 +138,7 @@ unfolding records_of
 records_are l g t layouts image group r =
     ap (λ (s : ℕ). chunks_in (bytes_from (encoded g t layouts image) s 8)) (page_sector_is l g t layouts image group r)
     ∙ ap chunks_in (page_is l g t layouts image group r)
-    ∙ l.pages.read (map chunk_record (group_at t group)) group (sector_in g group (page_place layouts group)) g.uuid r.leaf r.uuid
+    ∙ l.pages.read no_siblings (map chunk_record (group_at t group)) group (sector_in g group (page_place layouts group)) g.uuid r.leaf r.uuid
 
 pub page_right : (l : Lower) (g : Geometry) (t : Table) (layouts : Layouts) (image : List Sector) (group : ℕ) → IsReady g t layouts image group
     → IsPageRight g (encoded g t layouts image) group
