@@ -13,20 +13,20 @@ use Rattle.life_table.proofs.Counts.{times-used_cons, times-chunk}
 use Rattle.life_table.proofs.Groups.{AllByRecursion-get, IsPlace-chunk_place, IsGroup-insert_chunk}
 
 -- a free inode at a place of some inodes, whose first has this number
-record IsAmongInodes (number : ℕ) (inodes : List Inode) (key : Key) : Type 0 where
-  place : ℕ
-  inode : Inode
-  at : slice_get inodes place ≡ Some inode
-  named : key.number ≡ number + place
-  life : key.generation ≡ inode.generation
-  free : is_free inode ≡ true
+pub record IsAmongInodes (number : ℕ) (inodes : List Inode) (key : Key) : Type 0 where
+  pub place : ℕ
+  pub inode : Inode
+  pub at : slice_get inodes place ≡ Some inode
+  pub named : key.number ≡ number + place
+  pub life : key.generation ≡ inode.generation
+  pub free : is_free inode ≡ true
 
 later_inode : (number : ℕ) (first : Inode) (inodes : List Inode) (key : Key) → IsAmongInodes (number + 1) inodes key → IsAmongInodes number (first ∷ inodes) key
 later_inode number first inodes key found =
     let named : key.number ≡ number + 1 + found.place = found.named in
     record { place = suc found.place; inode = found.inode; at = found.at; named = omega (arith, named); life = found.life; free = found.free }
 
-first_from : (number : ℕ) (inodes : List Inode) (key : Key) → slice_get (keys_from number inodes) 0 ≡ Some key → IsAmongInodes number inodes key
+pub first_from : (number : ℕ) (inodes : List Inode) (key : Key) → slice_get (keys_from number inodes) 0 ≡ Some key → IsAmongInodes number inodes key
 unfolding keys_from
 first_from number [] key at = absurd (none-some key at)
 first_from number (inode ∷ inodes) key at =

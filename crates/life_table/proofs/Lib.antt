@@ -15,3 +15,4 @@ pub mod Frees
 pub mod Holds
 pub mod Numbers
 pub mod Lowest
+pub mod LowestKey

@@ -1,6 +1,6 @@
 // What the definitions have been proved to mean: each law is the contract of a function that does nothing.
 
-ghost use Rattle.std.specs.Prelude.{◌≡◌, ◌≢◌, ◌↔◌, ◌⊎◌, ◌<◌, ◌≤◌, ◌+◌, ℕ, true, false, List, None, Some, IsSome, IsSomeAnd, length, take};
+ghost use Rattle.std.specs.Prelude.{◌≡◌, ◌≢◌, ◌↔◌, ◌⊎◌, ◌<◌, ◌≤◌, ◌+◌, ◌/◌, ℕ, true, false, List, None, Some, IsSome, IsSomeAnd, length, take};
 ghost use Rattle.std.specs.List.{AllByRecursion};
 ghost use Rattle.std.specs.Option.{option_map};
 ghost use Rattle.life_table.specs.declared.key.Key.{Key};
@@ -10,9 +10,9 @@ ghost use Rattle.life_table.specs.declared.types.Reply.{Reply};
 ghost use Rattle.life_table.specs.declared.types.Entry.{Entry};
 ghost use Rattle.life_table.specs.declared.types.Event.{Event};
 ghost use Rattle.life_table.specs.declared.table.Table.{Table};
-ghost use Rattle.life_limits.specs.declared.TheConstants.{MAX_BLOCKS, MAX_CHUNKS, MAX_GROUPS, MIN_BLOCKS, VERSION};
+ghost use Rattle.life_limits.specs.declared.TheConstants.{GROUP_NUMBERS, MAX_BLOCKS, MAX_CHUNKS, MAX_GROUPS, MIN_BLOCKS, VERSION};
 ghost use Rattle.life_table.specs.Table.{Group, empty_table, group_number, group_at, inode_of, row_of};
-ghost use Rattle.life_table.specs.Space.{BeginsFreeRun, chunk_place, times};
+ghost use Rattle.life_table.specs.Space.{BeginsFreeRun, IsFreeNumber, chunk_place, lowest_key, times};
 ghost use Rattle.life_table.specs.Legal.{Awaits, Legal, Permits, Frees, IsDeviceFault, IsOpen, IsOfTable, CanMake, IsNoCut, IsNoHold, free_in, free_of, last_blocks};
 ghost use Rattle.life_table.specs.Replies.{reply_of};
 ghost use Rattle.life_table.specs.WellFormed.{IsDataBlock, IsRow, IsTable};
@@ -78,6 +78,15 @@ pub fn changes_pass_over_holds()
     ensures change { (t : Table) (event : Event) → is_change event ≡ true → closed (after_event t event) ≡ closed (after_event (closed t) event) }
     ensures no_change { (t : Table) (event : Event) → is_change event ≡ false → closed (after_event t event) ≡ closed t }
     ensures twice { (t : Table) → closed (closed t) ≡ closed t }
+{}
+
+/// A law: the lowest key of a group is that of its least free number, and there is none only where no number of the group is free.
+pub fn lowest_keys_are_least()
+    ensures free { (t : Table) (g : ℕ) (key : Key) → IsTable t → lowest_key g (group_at t g) ≡ Some key
+        → (key.number / GROUP_NUMBERS ≡ g) × IsFreeNumber t key.number }
+    ensures least { (t : Table) (g n : ℕ) (key : Key) → IsTable t → lowest_key g (group_at t g) ≡ Some key → n / GROUP_NUMBERS ≡ g → IsFreeNumber t n
+        → key.number ≤ n }
+    ensures none { (t : Table) (g n : ℕ) → IsTable t → lowest_key g (group_at t g) ≡ None → n / GROUP_NUMBERS ≡ g → ¬ IsFreeNumber t n }
 {}
 
 /// A law: the next chunk has the lowest place that there is: a multiple of 8 from which 8 blocks are free, in a group that may have one chunk more; and it has
