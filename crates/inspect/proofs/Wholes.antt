@@ -44,10 +44,12 @@ front_and_log g image found has log = record { superblock = has; log = log.says 
 
 pub first_of_groups : WholeLaws → (g : Geometry) (image : List Sector) (found : Found) (fault : CheckFault) → HasSuperblock g image → LogIsFound image (anchor_of g) g.ring found
     → IsDamage g (groups_found (anchor_of g) image found) fault → NamesFirstDamage image (of_check fault)
-first_of_groups laws g image found (check.Damaged number s) has log damage =
-    (of_groups damage.0, sym damage.1,
-     laws.of_groups g image log.log damage.0 s (front_and_log g image found has log)
-     (subst (λ (groups : List Sector). FirstGroupsDamage g groups damage.0 s) log.groups damage.2))
+first_of_groups laws g image found (check.Damaged number s) has log damage = (
+  of_groups damage.0,
+  sym damage.1,
+  laws.of_groups g image log.log damage.0 s (front_and_log g image found has log)
+      (subst (λ (groups : List Sector). FirstGroupsDamage g groups damage.0 s) log.groups damage.2),
+)
 first_of_groups laws g image found check.ReadFault has log damage = tt
 first_of_groups laws g image found check.NoMemory has log damage = tt
 

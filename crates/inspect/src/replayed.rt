@@ -20,11 +20,7 @@ use recovery::Found;
 use std::alloc::Global;
 
 /// Checks the groups of the image that a view shows, whatever is behind them.
-fn check_front<V: View>(
-    alloc: Global,
-    view: &mut V,
-    g: &Geometry,
-) -> Result<Tables, CheckFault>
+fn check_front<V: View>(alloc: Global, view: &mut V, g: &Geometry) -> Result<Tables, CheckFault>
     requires shape { IsGeometry g.now }
     requires size { anchor_of g.now ≤ V.sector_count view.old }
     ensures sound { IsTrue V.known → OnOk result (AreGroupsSound g.now (groups_part (anchor_of g.now) (V.image view.old))) }

@@ -9,11 +9,7 @@ use std::process::Abort;
 use std::test::Fail;
 
 /// Each row's changes, checksums set right, make the image one whose first damage is by this rule and at this sector.
-fn answers(
-    rt: &impl Abort,
-    alloc: Global,
-    rows: &[(&[Change], u32, u64)],
-) -> Result<(), Fail> {
+fn answers(rt: &impl Abort, alloc: Global, rows: &[(&[Change], u32, u64)]) -> Result<(), Fail> {
     for (changes, rule, sector) in rows {
         let found = inspected(alloc, changed(alloc, changes)?)?;
         assert_eq!(rt; found, damaged(*rule, *sector), "changes {changes:?}");
@@ -24,7 +20,10 @@ fn answers(
 #[test]
 fn the_image_is_sound(rt: HostRuntime) -> Result<(), Fail> {
     let alloc = rt.alloc();
-    assert_eq!(rt; inspected(alloc, sound_image(alloc)?)?, Ok((GEOMETRY, HELD)));
+    assert_eq!(rt;
+        inspected(alloc, sound_image(alloc)?)?,
+        Ok((GEOMETRY, HELD))
+    );
     // A sector of the ring from just before one turn beyond the log's end.
     let image = changed(alloc, &[(1030, 6, 1), (1030, 7, 255)])?;
     assert_eq!(rt; inspected(alloc, image)?, Ok((GEOMETRY, HELD)));
@@ -135,14 +134,43 @@ fn damages_of_bitmaps_and_unlinked_lists(rt: HostRuntime) -> Result<(), Fail> {
             (&[(521, 0, 1)], 10, 521),
             // Bucket 2 has 194, which has a link; bucket 5 has no inode.
             (&[(2, 48, 0), (2, 49, 0), (2, 50, 0), (2, 51, 194)], 11, 2),
-            (&[(514, 60, 0), (514, 61, 0), (514, 62, 0), (514, 63, 5)], 11, 514),
+            (
+                &[(514, 60, 0), (514, 61, 0), (514, 62, 0), (514, 63, 5)],
+                11,
+                514,
+            ),
             // 193 points at 192, which has a link, or at itself.
-            (&[(193, 96, 0), (193, 97, 0), (193, 98, 0), (193, 99, 192)], 11, 193),
-            (&[(705, 96, 0), (705, 97, 0), (705, 98, 0), (705, 99, 193)], 11, 705),
+            (
+                &[(193, 96, 0), (193, 97, 0), (193, 98, 0), (193, 99, 192)],
+                11,
+                193,
+            ),
+            (
+                &[(705, 96, 0), (705, 97, 0), (705, 98, 0), (705, 99, 193)],
+                11,
+                705,
+            ),
             // No list has 193; an inode with a link points on.
-            (&[(2, 44, 255), (2, 45, 255), (2, 46, 255), (2, 47, 255)], 12, 193),
-            (&[(514, 44, 255), (514, 45, 255), (514, 46, 255), (514, 47, 255)], 12, 705),
-            (&[(192, 96, 0), (192, 97, 0), (192, 98, 0), (192, 99, 193)], 12, 192),
+            (
+                &[(2, 44, 255), (2, 45, 255), (2, 46, 255), (2, 47, 255)],
+                12,
+                193,
+            ),
+            (
+                &[
+                    (514, 44, 255),
+                    (514, 45, 255),
+                    (514, 46, 255),
+                    (514, 47, 255),
+                ],
+                12,
+                705,
+            ),
+            (
+                &[(192, 96, 0), (192, 97, 0), (192, 98, 0), (192, 99, 193)],
+                12,
+                192,
+            ),
         ],
     )
 }
@@ -169,12 +197,22 @@ fn the_least_rule_and_its_least_sector_are_named(rt: HostRuntime) -> Result<(), 
 #[test]
 fn checksums_count(rt: HostRuntime) -> Result<(), Fail> {
     let alloc = rt.alloc();
-    let rows = [(0, 43, 1, 0), (1024, 4, 3, 1024), (514, 315, 5, 514), (528, 55, 6, 528), (704, 103, 7, 704)];
+    let rows = [
+        (0, 43, 1, 0),
+        (1024, 4, 3, 1024),
+        (514, 315, 5, 514),
+        (528, 55, 6, 528),
+        (704, 103, 7, 704),
+    ];
     for (at, place, rule, sector) in rows {
         let mut image = sound_image(alloc)?;
         let old = image.get(at).map_or(0, |s| s.bytes[place % 512]);
         change(&mut image, (at, place, old ^ 1));
-        assert_eq!(rt; inspected(alloc, image)?, damaged(rule, sector), "sector {at}");
+        assert_eq!(rt;
+            inspected(alloc, image)?,
+            damaged(rule, sector),
+            "sector {at}"
+        );
     }
     Ok(())
 }
@@ -185,7 +223,11 @@ fn missing_sectors_are_told_and_further_ones_ignored(rt: HostRuntime) -> Result<
     for (count, rule, sector) in [(0, 1, 0), (1, 2, 1), (1280, 2, 1280)] {
         let mut image = sound_image(alloc)?;
         image.truncate(count);
-        assert_eq!(rt; inspected(alloc, image)?, damaged(rule, sector), "{count} sectors");
+        assert_eq!(rt;
+            inspected(alloc, image)?,
+            damaged(rule, sector),
+            "{count} sectors"
+        );
     }
     let mut image = sound_image(alloc)?;
     let last = *image.first().ok_or("no sector")?;
@@ -202,7 +244,11 @@ fn each_read_fails_once(rt: HostRuntime) -> Result<(), Fail> {
     for call in 1..=reads {
         let fails = vec![in alloc; call]?;
         let mut disk = FaultDisk::new(MemoryDisk::with(alloc, sound_image(alloc)?)?, fails);
-        assert_eq!(rt; inspect(alloc, &mut disk), Err(InspectFault::ReadFault), "call {call}");
+        assert_eq!(rt;
+            inspect(alloc, &mut disk),
+            Err(InspectFault::ReadFault),
+            "call {call}"
+        );
     }
     let fails = vec![in alloc; reads + 1]?;
     let mut disk = FaultDisk::new(MemoryDisk::with(alloc, sound_image(alloc)?)?, fails);

@@ -1,8 +1,8 @@
 // A sound image, built byte by byte from the tables of the format, and changed byte by byte.
 use disk_model::MemoryDisk;
 use geometry::Geometry;
-use inspect::{InspectFault, inspect};
 use image_rules::Tables;
+use inspect::{InspectFault, inspect};
 use life_bytes::{Sector, put_crc, put_u16, put_u32, put_u64};
 use std::alloc::Global;
 use std::test::Fail;
@@ -136,7 +136,11 @@ fn inode(group: u32, agino: u32, file: Option<File>) -> Sector {
         if file.blocks > 0 {
             let start = u64::from(group) * 16_384 + u64::from(file.first);
             put_u32(bytes, 76, 1);
-            put_u64(bytes, 184, start % 4_294_967_296 * 2_097_152 + u64::from(file.blocks));
+            put_u64(
+                bytes,
+                184,
+                start % 4_294_967_296 * 2_097_152 + u64::from(file.blocks),
+            );
         }
     }
     put_crc(bytes, 100);
@@ -169,9 +173,7 @@ fn file_of(agino: u32) -> Option<File> {
 fn put_page(image: &mut Vec<Sector>, at: usize, bytes: &[u8; 4096]) {
     for k in 0..8 {
         let mut sector = Sector::zero();
-        sector
-            .bytes
-            .copy_from_slice(&bytes[512 * k..512 * k + 512]);
+        sector.bytes.copy_from_slice(&bytes[512 * k..512 * k + 512]);
         put(image, at.wrapping_add(k), &sector);
     }
 }

@@ -4,7 +4,9 @@ ghost use Rattle.life_bytes.specs.Sectors.{zero_sector};
 ghost use Rattle.disk_model.specs.Disk.{settled_as};
 ghost use Rattle.disk_model.specs.MemoryDisk.{cells_of};
 
-use crate::images::{ANCHOR, GEOMETRY, HELD, SECTORS, changed, damaged, inspected, put, sound_image};
+use crate::images::{
+    ANCHOR, GEOMETRY, HELD, SECTORS, changed, damaged, inspected, put, sound_image,
+};
 use disk_model::MemoryDisk;
 use image_make::make;
 use image_rules::Tables;
@@ -82,12 +84,25 @@ fn record_at(alloc: Global, position: u64, first: u64, right: bool) -> Result<Re
 fn the_newest_image_of_a_whole_record_counts(rt: HostRuntime) -> Result<(), Fail> {
     let alloc = rt.alloc();
     // The home sector is wrong, and the log's last word on it is right; and the other way round.
-    for (home, older, newer) in [(0, false, true), (0x49, true, false), (0x49, false, true), (0, true, false)] {
+    for (home, older, newer) in [
+        (0, false, true),
+        (0x49, true, false),
+        (0x49, false, true),
+        (0, true, false),
+    ] {
         let mut image = changed(alloc, &[(192, 0, home)])?;
         log(&mut image, &record_at(alloc, 256, 1, older)?, 2);
         log(&mut image, &record_at(alloc, 258, 2, newer)?, 2);
-        let want = if newer { Ok((GEOMETRY, HELD)) } else { damaged(7, 192) };
-        assert_eq!(rt; inspected(alloc, image)?, want, "home {home}, then {older} and {newer}");
+        let want = if newer {
+            Ok((GEOMETRY, HELD))
+        } else {
+            damaged(7, 192)
+        };
+        assert_eq!(rt;
+            inspected(alloc, image)?,
+            want,
+            "home {home}, then {older} and {newer}"
+        );
     }
     Ok(())
 }
@@ -121,7 +136,10 @@ fn nothing_before_a_cover_counts(rt: HostRuntime) -> Result<(), Fail> {
         return Err("damaged".into());
     };
     assert_eq!(rt; (found.geometry, found.tables), (GEOMETRY, HELD));
-    assert_eq!(rt; (found.log.tail, found.log.end, found.log.next_commit), (258, 259, 2));
+    assert_eq!(rt;
+        (found.log.tail, found.log.end, found.log.next_commit),
+        (258, 259, 2)
+    );
     Ok(())
 }
 
@@ -129,7 +147,12 @@ fn nothing_before_a_cover_counts(rt: HostRuntime) -> Result<(), Fail> {
 fn damages_of_the_log(rt: HostRuntime) -> Result<(), Fail> {
     let alloc = rt.alloc();
     // A home that is the superblock, one behind the groups, a gap in front of the last record, and commit number 0.
-    let rows = [(258, 258, 0, 1), (258, 258, 1024, 1), (258, 256, 192, 1), (258, 258, 192, 0)];
+    let rows = [
+        (258, 258, 0, 1),
+        (258, 258, 1024, 1),
+        (258, 256, 192, 1),
+        (258, 258, 192, 0),
+    ];
     for (position, tail, home, first) in rows {
         let mut image = sound_image(alloc)?;
         let record = Record {
@@ -139,7 +162,11 @@ fn damages_of_the_log(rt: HostRuntime) -> Result<(), Fail> {
             image: Some((home, inode_192(alloc, true)?)),
         };
         log(&mut image, &record, 2);
-        assert_eq!(rt; inspected(alloc, image)?, damaged(4, 1027), "tail {tail}, home {home}, first {first}");
+        assert_eq!(rt;
+            inspected(alloc, image)?,
+            damaged(4, 1027),
+            "tail {tail}, home {home}, first {first}"
+        );
     }
     Ok(())
 }

@@ -25,7 +25,7 @@ ghost use Rattle.whole_image.specs.Represents.{Represents};
 use geometry::superblocks_tell_geometries;
 use log_image::{logs, overlays};
 use log_record::whole_records;
-use sound_image::{sound_tables_are_well_formed, encoded_images_are_sound};
+use sound_image::{encoded_images_are_sound, sound_tables_are_well_formed};
 
 /// A law: an image has at most one first damage, and none where it is sound. That its superblock is wrong is its first damage, and where that is right, that it
 /// has too few sectors. Where it has all, the first damage of its anchor and its log is the image's; where these are right too, that of its replayed groups is.

@@ -5,6 +5,6 @@
 mod laws;
 
 pub use laws::{
-    blank_images_are_damaged, images_represent_one_table, one_first_damage, sound_images_represent_a_table,
-    encoded_images_represent_their_table,
+    blank_images_are_damaged, encoded_images_represent_their_table, images_represent_one_table,
+    one_first_damage, sound_images_represent_a_table,
 };
