@@ -6,8 +6,6 @@ ghost use Rattle.life_ports.specs.Faults.{NeverFalls, Rose};
 ghost use Rattle.life_cli.specs.FileDisk.{all_given};
 
 use disk_model::{Disk, Images};
-use libc::getrlimit;
-use libc::types::rlimit;
 use life_bytes::Sector;
 use life_limits::SECTOR_BYTES;
 use life_ports::{Failed, Refused};
@@ -16,9 +14,6 @@ use std::fs::{File, OpenOptions};
 use std::io;
 use std::io::{Read, Seek, SeekFrom, Write};
 use std::rt::Files;
-
-// What getrlimit is asked for the size of files, on Linux.
-const FILE_SIZE: i32 = 1;
 
 /// A file as a disk of whole sectors. A last part of the file of less than a sector is left as it is.
 #[derive(Drop)]
@@ -34,20 +29,7 @@ fn read_at(file: &mut File, place: u64, into: &mut Sector) -> io::Result<()> {
     file.read_exact(&mut into.bytes)
 }
 
-// Whether a file of so many bytes is within the size that this process may give a file. To go past it would end the process by a signal.
-fn is_allowed_size(bytes: u64) -> bool {
-    let mut limit = rlimit {
-        rlim_cur: 0,
-        rlim_max: 0,
-    };
-    getrlimit(FILE_SIZE, &mut limit) == 0 && bytes <= limit.rlim_cur
-}
-
 fn write_at(file: &mut File, place: u64, pieces: &[Sector]) -> io::Result<()> {
-    let length = (pieces.len() as u64).saturating_mul(u64::from(SECTOR_BYTES));
-    if !is_allowed_size(place.saturating_add(length)) {
-        return Err(io::Error::from(io::ErrorKind::FileTooLarge));
-    }
     file.seek(SeekFrom::Start(place))?;
     for piece in pieces {
         file.write_all(&piece.bytes)?;
@@ -206,9 +188,6 @@ fn make(files: &impl Files<File = File>, path: &str, sectors: u64) -> io::Result
     let Some(bytes) = sectors.checked_mul(u64::from(SECTOR_BYTES)) else {
         return Err(io::Error::from(io::ErrorKind::InvalidInput));
     };
-    if !is_allowed_size(bytes) {
-        return Err(io::Error::from(io::ErrorKind::FileTooLarge));
-    }
     let file = File::create_new(files, path)?;
     file.set_len(bytes)?;
     Ok(FileDisk {
