@@ -11,8 +11,6 @@ mod memory_images;
 mod outcome;
 mod stop_disk;
 mod stops;
-#[cfg(test)]
-mod tests;
 mod view;
 
 pub use blank::Blank;

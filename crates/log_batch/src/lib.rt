@@ -7,6 +7,3 @@ mod find;
 
 pub use batch::Batch;
 pub use dirty::DirtySectors;
-
-#[cfg(test)]
-mod tests;

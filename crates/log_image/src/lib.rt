@@ -18,6 +18,3 @@ pub use home::home_writes;
 pub use log::logs;
 pub use overlay::overlays;
 pub use torn::torn_records;
-
-#[cfg(test)]
-mod tests;

@@ -7,6 +7,3 @@
 mod positions;
 
 pub use positions::Positions;
-
-#[cfg(test)]
-mod tests;

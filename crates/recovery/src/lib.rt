@@ -20,6 +20,3 @@ pub use overlay::Overlay;
 pub use replaying::replay;
 pub use scanning::scan;
 pub use start::{ReplayFault, Start};
-
-#[cfg(test)]
-mod tests;

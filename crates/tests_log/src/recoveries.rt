@@ -3,13 +3,13 @@ ghost use Rattle.std.specs.Prelude.{◌≡◌, ◌≤◌, ◌+◌, ◌^◌, IfOk
 ghost use Rattle.geometry.specs.Shape.{IsGeometry};
 ghost use Rattle.log_record.specs.Encoding.{IsRecord};
 
-use super::*;
 use disk_model::{Disk, FaultDisk, MemoryDisk, View};
 use geometry::{Geometry, image_sectors};
 use life_bytes::{Sector, put_u64};
 use life_ports::NoMemory;
 use log_image::{Anchor, read_anchor, write_anchor};
 use log_record::{Image, ImageList, LogRecord, record_bytes};
+use recovery::{Found, ReplayFault, ScanFault, Start, replay, scan};
 use std::alloc::Global;
 use std::test::Fail;
 

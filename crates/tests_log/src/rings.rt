@@ -1,4 +1,4 @@
-use super::*;
+use log_ring::Positions;
 
 #[test]
 fn positions_of_a_ring(rt: HostRuntime) {

@@ -1,7 +1,9 @@
 ghost use Rattle.std.specs.Prelude.{◌≡◌, ◌<◌, ◌≤◌, IsTrue, IfOk};
 ghost use Rattle.disk_model.specs.View.{OnlyRead};
 
-use super::*;
+use disk_model::{
+    Blank, Disk, DiskView, FaultDisk, Images, MemoryDisk, MemoryImages, StopDisk, Stops, View,
+};
 use life_bytes::Sector;
 use life_ports::{Failed, NoMemory, Refused};
 use std::alloc::Global;

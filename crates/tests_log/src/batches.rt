@@ -2,9 +2,9 @@ ghost use Rattle.std.specs.Prelude.{◌≡◌, ◌≤◌, ◌<◌, IfOk, length}
 ghost use Rattle.std.specs.List.{All};
 ghost use Rattle.log_batch.specs.Newest.{IsCommit};
 
-use super::*;
 use life_bytes::Sector;
 use life_ports::NoMemory;
+use log_batch::{Batch, DirtySectors};
 use log_record::{Commit, Image, ImageList};
 use std::alloc::Global;
 use std::collections::VecDeque;

@@ -1,5 +1,5 @@
-use super::*;
 use life_bytes::Sector;
+use log_image::{Anchor, read_anchor, write_anchor};
 use std::test::Fail;
 
 #[test]

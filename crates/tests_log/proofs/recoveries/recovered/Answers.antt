@@ -4,7 +4,7 @@ use Rattle.life_bytes.specs.declared.sector.Sector.{Sector}
 use Rattle.disk_model.specs.Disk.{HasOneImage, as_read}
 use Rattle.disk_model.specs.DiskLaws.{HasOneImage-flushed, as_read-flushed}
 use Rattle.recovery.specs.Found.{LogIsFound}
-use Rattle.recovery.proofs.tests.recovered.Goals as goal
+use Rattle.tests_log.proofs.recoveries.recovered.Goals as goal
 
 pub replay-start-requires-clause-found : goal.replay-start-requires-clause-found
 replay-start-requires-clause-found g c known =
