@@ -9,6 +9,3 @@ mod nexts;
 pub use buckets::{list, put, remove};
 pub use laws::pointers_give_one_list;
 pub use nexts::Nexts;
-
-#[cfg(test)]
-mod tests;

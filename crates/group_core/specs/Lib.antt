@@ -1,4 +1,3 @@
 pub mod GroupHistory
 pub mod Value
-pub mod Sample
 pub mod InCore

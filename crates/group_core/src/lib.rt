@@ -8,6 +8,3 @@ mod laws;
 pub use group::{Group, begin_group};
 pub use group_table::{GroupTable, Staged};
 pub use laws::{histories_lead_to_one_table, legal_events_happen_unheld};
-
-#[cfg(test)]
-mod tests;

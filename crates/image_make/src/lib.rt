@@ -9,6 +9,3 @@ mod making;
 
 pub use fault::MakeFault;
 pub use making::make;
-
-#[cfg(test)]
-mod tests;

@@ -23,6 +23,3 @@ pub use inodes::{right_blocks, right_core};
 pub use one_group::check_group;
 pub use pages::{has_counts, right_leaf};
 pub use tables::Tables;
-
-#[cfg(test)]
-mod tests;

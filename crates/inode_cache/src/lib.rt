@@ -10,6 +10,3 @@ mod number_set;
 pub use cache::{InodeCache, begin_cache};
 pub use inode::{CLUSTER_INODES, Incore, Kept, write_inode};
 pub use number_set::NumberSet;
-
-#[cfg(test)]
-mod tests;

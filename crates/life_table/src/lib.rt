@@ -20,6 +20,3 @@ pub use laws::{
 pub use list::Listed;
 pub use table::{Chunk, Group, Inode, Table};
 pub use types::{Blocks, Call, Entries, Entry, Event, Froms, MountRecord, Reply, Row, Runs};
-
-#[cfg(test)]
-mod tests;

@@ -9,6 +9,3 @@ mod rows;
 mod space;
 
 pub use plain::PlainTable;
-
-#[cfg(test)]
-mod tests;

@@ -64,6 +64,3 @@ pub use parser::parse;
 pub use printer::{no_memory_line, print, print_run, print_status};
 pub use status::Status;
 pub use types::{Command, Line, Script, Spoken};
-
-#[cfg(test)]
-mod tests;
