@@ -1,5 +1,5 @@
 // The log over an image: its groups are checked as the log leaves them, and not as they read.
-ghost use Rattle.std.specs.Prelude.{◌≡◌, IfOk, replicate};
+ghost use Rattle.std.specs.Prelude.{◌≡◌, ◌≤◌, IfOk, length, replicate};
 ghost use Rattle.life_bytes.specs.Sectors.{zero_sector};
 ghost use Rattle.disk_model.specs.Disk.{settled_as};
 ghost use Rattle.disk_model.specs.MemoryDisk.{cells_of};
@@ -26,7 +26,9 @@ struct Record {
 }
 
 /// The sectors of a record: one of a cover, else two.
-fn count_of(record: &Record) -> u64 {
+fn count_of(record: &Record) -> u64
+    ensures { result ≤ 2 }
+{
     if record.image.is_some() { 2 } else { 1 }
 }
 
@@ -173,7 +175,8 @@ fn damages_of_the_log(rt: HostRuntime) -> Result<(), Fail> {
 
 /// A disk of so many sectors of zero bytes.
 fn blank_disk(alloc: Global) -> Result<MemoryDisk, Fail>
-    ensures { IfOk result (λ disk. cells_of disk ≡ settled_as (replicate SECTORS zero_sector)) }
+    ensures blank { IfOk result (λ disk. cells_of disk ≡ settled_as (replicate (length (cells_of disk)) zero_sector)) }
+    ensures sectors { IfOk result (λ disk. length (cells_of disk) ≡ SECTORS) }
 {
     Ok(MemoryDisk::new(alloc, SECTORS as u64)?)
 }
