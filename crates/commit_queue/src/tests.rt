@@ -32,7 +32,7 @@ fn one_commit_goes_through(rt: HostRuntime) -> Result<(), Fail> {
         mut taker,
     } = make_queue(rt.alloc(), 1)?;
     let Some(mut committer) = committers.pop() else {
-        return Ok(());
+        return Err(Fail::from("there is no committer"));
     };
     let commit = commit_of(rt.alloc(), 0, 7)?;
     assert_eq!(rt; committer.push(&rt, commit).ok(), Some(1));
@@ -84,10 +84,10 @@ fn each_group_comes_in_order(rt: HostRuntime) -> Result<(), Fail> {
         mut taker,
     } = make_queue(alloc, 2)?;
     let Some(second) = committers.pop() else {
-        return Ok(());
+        return Err(Fail::from("there is no committer"));
     };
     let Some(first) = committers.pop() else {
-        return Ok(());
+        return Err(Fail::from("there is no committer"));
     };
     let one = thread::spawn(&rt, move || push_all(&rt, alloc, first))?;
     let other = thread::spawn(&rt, move || push_all(&rt, alloc, second))?;
