@@ -23,7 +23,8 @@ pub record TakerState : Type 0 where
 -- each group has its committer, all have one queue, and nothing was pushed or taken
 pub record AreNewEnds (groups : ℕ) (committers : List CommitterState) (taker : TakerState) : Type 0 where
   pub one_each : length committers ≡ groups
-  pub new : (g : ℕ) → g < groups → slice_get committers g ≡ Some (record { queue = taker.queue; group = g; pushed = [] })
+  pub new : (g : ℕ) → g < groups
+      → slice_get committers g ≡ Some (record { queue = taker.queue; group = g; pushed = [] })
   pub idle : taker ≡ record { queue = taker.queue; groups = groups; taken = []; streams = [] }
 
 -- the count of each group is that of its commits

@@ -32,7 +32,8 @@ pub record Queued (items : List Commit) (ends : List Known) : Type 0 where
 
 -- what a push tells the committer
 abbrev pub Pushed : Known → Commit → Known → Type 0
-Pushed v x w = (s : Stream) × (v.streams ≡ s ∷ []) × (w ≡ record v { streams = stream s.group (s.pushed ++ x ∷ []) ∷ [] })
+Pushed v x w =
+    (s : Stream) × (v.streams ≡ s ∷ []) × (w ≡ record v { streams = stream s.group (s.pushed ++ x ∷ []) ∷ [] })
 
 -- what a pop tells the taker
 pub record Popped (v : Known) (x : Commit) (w : Known) : Type 0 where

@@ -15,7 +15,8 @@ stream group pushed = record { group = group; pushed = pushed }
 abbrev pub committer_knows : ℕ → List Commit → Known
 committer_knows group pushed = record { streams = stream group pushed ∷ []; takes = false; groups = 0; taken = [] }
 
--- what the taker's end knows: the streams of the committers that it took in, for how many groups it made one, what was taken
+-- what the taker's end knows: the streams of the committers that it took in, for how many groups it made one, and what
+-- was taken
 abbrev pub taker_knows : List Stream → ℕ → List Commit → Known
 taker_knows streams groups taken = record { streams = streams; takes = true; groups = groups; taken = taken }
 

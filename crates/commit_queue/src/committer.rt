@@ -48,7 +48,8 @@ impl Committer {
         requires { commit.group ≡ self.old.group }
         ensures stays { self.new ≡ record self.old { pushed = self.new.pushed } }
         ensures pushed { MatchResult result
-            (λ n. (n ≡ length self.new.pushed) × (self.new ≡ record self.old { pushed = self.old.pushed ++ commit ∷ [] }))
+            (λ n. (n ≡ length self.new.pushed)
+            × (self.new ≡ record self.old { pushed = self.old.pushed ++ commit ∷ [] }))
             (λ back. (back ≡ commit) × (self.new ≡ self.old)) }
     {
         if self.pushes == u64::MAX {
