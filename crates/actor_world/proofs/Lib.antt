@@ -1,0 +1,4 @@
+mod Mounted
+mod OpenSteps
+mod StepKinds
+mod Waits

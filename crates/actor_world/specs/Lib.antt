@@ -1,0 +1,12 @@
+pub mod Caches
+pub mod Moves
+pub mod World
+pub mod Steps
+pub mod Words
+pub mod Licence
+pub mod Invariant
+pub mod Kinds
+pub mod Mounted
+pub mod Runs
+pub mod Rows
+pub mod Lines

@@ -1,0 +1,79 @@
+// Laws of the world's steps.
+
+ghost use Rattle.std.specs.Prelude.{◌≡◌, ℕ, true, false, List, Option, None, Some};
+ghost use Rattle.log_record.specs.declared.image.Commit.{Commit};
+ghost use Rattle.life_table.specs.declared.key.Key.{Key};
+ghost use Rattle.life_table.specs.declared.types.Call.TheVariants as Call;
+ghost use Rattle.life_table.specs.declared.types.Reply.TheVariants as Reply;
+ghost use Rattle.life_table.specs.declared.types.Event.{Event};
+ghost use Rattle.life_table.specs.declared.table.Table.{Table};
+ghost use Rattle.slot_words.specs.declared.sight.Sight.TheVariants as Sight;
+ghost use Rattle.slot_words.specs.Steps.{sight_of};
+ghost use Rattle.actor_world.specs.declared.memory.Place.{Place};
+ghost use Rattle.actor_world.specs.declared.memory.Place.TheVariants as place;
+ghost use Rattle.actor_world.specs.declared.memory.Doing.{Doing};
+ghost use Rattle.actor_world.specs.declared.memory.Memory.{Memory};
+ghost use Rattle.actor_world.specs.Caches.{moved_to, cached_word, ended, is_of_geometry};
+ghost use Rattle.actor_world.specs.Moves.{answers, open_move, pinned, silent, lies_in_group, lies_in_log, takes_group, takes_log, waits_in_group};
+ghost use Rattle.actor_world.specs.World.{History, World, told_if};
+ghost use Rattle.actor_world.specs.Steps.{DiskFace, Step};
+ghost use Rattle.actor_world.specs.Kinds.{IsLogKind};
+ghost use Rattle.actor_world.specs.Invariant.{Invariant};
+ghost use Rattle.actor_world.specs.Mounted.{IsMounted};
+
+use disk_model::Disk;
+use life_table::{changes_pass_over_holds, recovery_frees_once};
+
+/// What a commit is told of: whether it encodes the change from one history to the next. What is proved of the bytes of
+/// a commit fills it in.
+pub trait Tells {
+    ghost use Rattle.log_record.specs.declared.image.Commit.{Commit};
+    ghost use Rattle.actor_world.specs.World.{History};
+
+    ghost tells: { History → History → Commit → Type 0 };
+}
+
+/// A law: each step is of one of four kinds towards the log. It commits one change, as the last of the queue; or it moves
+/// all queued commits, in order, behind those of the store's list; or it is one step of the store; or it leaves queue,
+/// store and disk. Only the first kind adds a change.
+pub fn steps_are_of_four_kinds<D: Disk, T: Tells>()
+    ensures { (face : DiskFace D) (a : ℕ) (old new : World D) → Step face T.tells a old new
+        → IsLogKind face T.tells a old new }
+{}
+
+/// A law: a step appends at most one entry, which is of the actor that takes it and of its call.
+pub fn steps_append_one_entry<D: Disk, T: Tells>()
+    ensures { (face : DiskFace D) (a : ℕ) (old new : World D) → (step : Step face T.tells a old new)
+        → (event : Option Event) × (new.history ≡ told_if a step.doing.«from» event old.history) }
+{}
+
+/// A law: the first step of an open or a close takes no lock of a group, so it never waits. An open whose first step finds
+/// the word open, and whose next step finds it unchanged, ends there with one pin more.
+pub fn opens_begin_unlocked()
+    ensures open { (queue : List Key) (key : Key) (begin : ℕ) (m : Memory)
+        → waits_in_group queue (record { call = Call.OpenKey key; place = place.Load; «from» = begin }) m ≡ None }
+    ensures close { (queue : List Key) (key : Key) (begin : ℕ) (m : Memory)
+        → waits_in_group queue (record { call = Call.CloseKey key; place = place.Unpin; «from» = begin }) m ≡ None }
+    ensures sees { (key : Key) (a : ℕ) (doing : Doing) (t : Table) (m : Memory) → is_of_geometry t key.number ≡ true
+        → sight_of key.generation (cached_word m key.number) ≡ Sight.Open
+        → open_move key place.Load a doing t m
+        ≡ Some (silent (moved_to a doing (place.Pin (cached_word m key.number)) m)) }
+    ensures ends { (key : Key) (a : ℕ) (doing : Doing) (t : Table) (m : Memory)
+        → open_move key (place.Pin (cached_word m key.number)) a doing t m
+        ≡ Some (answers doing Reply.Done (ended a (pinned key m))) }
+{}
+
+/// A law: a world as a mount gives it meets the invariant.
+pub fn mounted_worlds_are_right<D: Disk, T: Tells>()
+    ensures { (start : Table) (w : World D) → IsMounted T.tells start w → Invariant T.tells start w }
+{
+    recovery_frees_once();
+    changes_pass_over_holds();
+}
+
+/// A law: a call whose place lies in a lock takes none by its next step. So whoever holds a lock never waits, and nobody
+/// holds two.
+pub fn holders_never_wait()
+    ensures group { (at : Place) → lies_in_group at ≡ true → (takes_group at ≡ false) × (takes_log at ≡ false) }
+    ensures log { (at : Place) → lies_in_log at ≡ true → (takes_group at ≡ false) × (takes_log at ≡ false) }
+{}

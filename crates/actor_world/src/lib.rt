@@ -1,0 +1,14 @@
+//! The world of actors: calls of several actors that take their atomic steps between each other's steps. Here are the
+//! world as data, what one step does, and what is always so. Nothing here runs an image.
+#![tactic(auto)]
+
+mod laws;
+mod memory;
+mod rows;
+
+pub use laws::{
+    Tells, holders_never_wait, mounted_worlds_are_right, opens_begin_unlocked,
+    steps_append_one_entry, steps_are_of_four_kinds,
+};
+pub use memory::{Actor, Doing, GroupCache, Memory, Place, Residence, Slot};
+pub use rows::rows_run;
