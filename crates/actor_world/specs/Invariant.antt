@@ -12,7 +12,7 @@ use Rattle.life_table.specs.declared.types.Call.{Call}
 use Rattle.life_table.specs.declared.types.Call.TheVariants as call
 use Rattle.life_table.specs.declared.types.Reply.{Reply}
 use Rattle.life_table.specs.declared.types.Reply.TheVariants as reply
-use Rattle.life_table.specs.declared.types.Event.TheVariants.{Called}
+use Rattle.life_table.specs.declared.types.Event.TheVariants.{Called, Freed}
 use Rattle.life_table.specs.declared.types.Entry.{Entry}
 use Rattle.life_table.specs.declared.table.Table.{Table}
 use Rattle.life_table.specs.Table.{group_number, row_of}
@@ -149,12 +149,23 @@ HasEntry entries froms a begin made (Some answer) =
     × ((j : ℕ) (other : Call) (reply : Reply) → slice_get entries j ≡ Some (record { actor = a; event = Called other reply })
     → slice_get froms j ≡ Some begin → j ≡ i)
 
--- what is so of an actor in a call: the call began before now; it has its hold; its entry is as its place says; and what
--- the place keeps is so
+-- a call has freed a key
+abbrev pub HasFreed : List Entry → List ℕ → ℕ → ℕ → Key → Type 0
+HasFreed entries froms a begin key = (i : ℕ) × (slice_get entries i ≡ Some (record { actor = a; event = Freed key })) × (slice_get froms i ≡ Some begin)
+
+-- a call that is about to free is still short where it has freed nothing; one that is about to kill a word has freed its key
+abbrev pub FreesAreRight : List Entry → List ℕ → Table → ℕ → ℕ → Call → Place → Type 0
+FreesAreRight entries froms t a begin made (place.Free key others) = ((gone : Key) → HasFreed entries froms a begin gone → ⊥) → Short t made
+FreesAreRight entries froms t a begin made (place.Kill key others) = HasFreed entries froms a begin key
+FreesAreRight entries froms t a begin made _ = ⊤
+
+-- what is so of an actor in a call: the call began before now; it has its hold; its entry and its frees are as its place
+-- says; and what the place keeps is so
 pub record CallIsRight (start : Table) (h : History) (m : Memory) (a : ℕ) (queue : List Key) (d : Doing) : Type 0 where
   pub begun : d.«from» ≤ length h.entries
   pub held : IsHeld h.entries a (key_of d.call)
   pub entry : HasEntry h.entries h.froms a d.«from» d.call (reply_at d.place)
+  pub frees : FreesAreRight h.entries h.froms h.table a d.«from» d.call d.place
   pub keeps : PlaceKeeps start h.entries h.table m queue (group_of_call queue d.call) d.«from» d.call d.place
   pub due : DueHolds d.call h.table m (due_at (first_key queue) d.call d.place)
 
