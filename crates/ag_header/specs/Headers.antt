@@ -4,6 +4,7 @@ use Rattle.std.specs.List.{flat_map}
 use Rattle.byteorder.specs.Endian.{big_bytes}
 use Rattle.life_limits.specs.declared.TheConstants.{FIRST_PAGE_BLOCK, LAST_PAGE_BLOCK, MAX_LEVEL, NO_INODE}
 use Rattle.life_bytes.specs.Pieces.{Field, number, piece, placed, blank, sealed}
+use Rattle.ag_header.specs.declared.agi.TheConstants.{AGI_CRC_AT, AGI_UNLINKED_AT}
 use Rattle.ag_header.specs.declared.agi.Agi.{Agi}
 
 -- the root page is a block of pages, and the level is one that trees have
@@ -33,13 +34,13 @@ header_fields agi =
     ∷ number 28 4 agi.free
     ∷ number 32 4 NO_INODE
     ∷ number 36 4 NO_INODE
-    ∷ piece 40 256 (flat_map (big_bytes 4) agi.heads)
+    ∷ piece AGI_UNLINKED_AT 256 (flat_map (big_bytes 4) agi.heads)
     ∷ piece 296 16 agi.uuid
     ∷ []
 
--- the sector that encodes a header, with the checksum at byte 312
+-- the sector that encodes a header, with the checksum in its place
 unfoldable pub header_encoding : Agi → List ℕ
-header_encoding agi = sealed 312 (placed (header_fields agi) blank)
+header_encoding agi = sealed AGI_CRC_AT (placed (header_fields agi) blank)
 
 -- the sector encodes the header
 pub record EncodesHeader (bytes : List ℕ) (agi : Agi) : Type 0 where

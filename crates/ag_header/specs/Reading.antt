@@ -2,6 +2,7 @@
 use Rattle.std.specs.Prelude.{◌≡◌, ◌+◌, ◌*◌, ℕ, List, length, map, take, drop}
 use Rattle.std.specs.List.{range_with_len}
 use Rattle.life_bytes.specs.Fields.{field}
+use Rattle.ag_header.specs.declared.agi.TheConstants.{AGI_UNLINKED_AT}
 use Rattle.ag_header.specs.declared.agi.Agi.{Agi}
 use Rattle.ag_header.specs.Headers.{IsAgi, FieldsFit, EncodesHeader, header_encoding}
 
@@ -14,7 +15,7 @@ agi_in bytes = record {
   root = field 4 20 bytes;
   level = field 4 24 bytes;
   free = field 4 28 bytes;
-  heads = map (λ k. field 4 (40 + 4 * k) bytes) (range_with_len 0 64);
+  heads = map (λ k. field 4 (AGI_UNLINKED_AT + 4 * k) bytes) (range_with_len 0 64);
   uuid = take 16 (drop 296 bytes);
 }
 

@@ -1,5 +1,11 @@
 //! What an AGI tells.
 
+/// The byte of an AGI at which the heads of the unlinked buckets begin, 4 bytes each: XFS names the field `agi_unlinked`.
+pub const AGI_UNLINKED_AT: usize = 40;
+
+/// The byte at which the checksum of an AGI stands: XFS names the field `agi_crc`.
+pub const AGI_CRC_AT: usize = 312;
+
 /// A group's header.
 #[derive(Clone, Copy, Debug, PartialEq, Eq)]
 pub struct Agi {

@@ -5,6 +5,7 @@ ghost use Rattle.std.specs.List.{flat_map};
 ghost use Rattle.byteorder.specs.Endian.{big_bytes};
 ghost use Rattle.life_bytes.specs.Fields.{field};
 
+use crate::agi::AGI_UNLINKED_AT;
 use life_bytes::{Sector, field_u32, put_u32};
 
 pub(crate) fn bytes_of(heads: &[u32; 64]) -> [u8; 256]
@@ -20,11 +21,11 @@ pub(crate) fn bytes_of(heads: &[u32; 64]) -> [u8; 256]
 }
 
 pub(crate) fn heads_in(sector: &Sector) -> [u32; 64]
-    ensures { (k : ℕ) → k < 64 → get_or result k 0 ≡ field 4 (40 + 4 * k) sector.now.bytes }
+    ensures { (k : ℕ) → k < 64 → get_or result k 0 ≡ field 4 (AGI_UNLINKED_AT + 4 * k) sector.now.bytes }
 {
     let mut heads = [0; 64];
     for index in 0..64 {
-        heads[index] = field_u32(&sector.bytes, 40 + 4 * index);
+        heads[index] = field_u32(&sector.bytes, AGI_UNLINKED_AT + 4 * index);
     }
     heads
 }

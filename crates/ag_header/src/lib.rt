@@ -26,7 +26,7 @@ mod reading;
 mod setting;
 mod writing;
 
-pub use agi::Agi;
+pub use agi::{AGI_CRC_AT, AGI_UNLINKED_AT, Agi};
 pub use laws::encoded_headers_are_read;
 pub use reading::read_agi;
 pub use setting::{set_counts, set_head, set_root};

@@ -5,7 +5,7 @@ ghost use Rattle.life_bytes.specs.Fields.{field};
 ghost use Rattle.ag_header.specs.declared.agi.Agi.{Agi};
 ghost use Rattle.ag_header.specs.Headers.{IsAgi, EncodesHeader};
 
-use crate::agi::Agi;
+use crate::agi::{AGI_UNLINKED_AT, Agi};
 use crate::heads::heads_in;
 use crate::writing::write_agi;
 use life_bytes::{Sector, field_u32};
@@ -19,7 +19,7 @@ fn fields_of(sector: &Sector) -> Agi
     ensures root { result.root ≡ field 4 20 sector.now.bytes }
     ensures level { result.level ≡ field 4 24 sector.now.bytes }
     ensures free { result.free ≡ field 4 28 sector.now.bytes }
-    ensures heads { (k : ℕ) → k < 64 → get_or result.heads k 0 ≡ field 4 (40 + 4 * k) sector.now.bytes }
+    ensures heads { (k : ℕ) → k < 64 → get_or result.heads k 0 ≡ field 4 (AGI_UNLINKED_AT + 4 * k) sector.now.bytes }
     ensures many { length result.heads ≡ 64 }
     ensures uuid { result.uuid ≡ take 16 (drop 296 sector.now.bytes) }
 {

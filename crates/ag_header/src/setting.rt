@@ -5,6 +5,7 @@ ghost use Rattle.life_limits.specs.declared.TheConstants.{BUCKETS, FIRST_PAGE_BL
 ghost use Rattle.ag_header.specs.declared.agi.Agi.{Agi};
 ghost use Rattle.ag_header.specs.Headers.{IsGroupHeader, EncodesHeader, with_head, with_counts, with_root};
 
+use crate::agi::{AGI_CRC_AT, AGI_UNLINKED_AT};
 use life_bytes::{Sector, put_crc, put_u32};
 use life_limits::{BUCKETS, FIRST_PAGE_BLOCK, LAST_PAGE_BLOCK, MAX_LEVEL};
 
@@ -15,8 +16,12 @@ pub fn set_head(sector: &mut Sector, bucket: u32, agino: u32)
     ensures header { IsGroupHeader sector.new.bytes }
     ensures set { (agi : Agi) → EncodesHeader sector.old.bytes agi → EncodesHeader sector.new.bytes (with_head agi bucket agino) }
 {
-    put_u32(&mut sector.bytes, 40 + 4 * bucket as usize, agino);
-    put_crc(&mut sector.bytes, 312);
+    put_u32(
+        &mut sector.bytes,
+        AGI_UNLINKED_AT + 4 * bucket as usize,
+        agino,
+    );
+    put_crc(&mut sector.bytes, AGI_CRC_AT);
 }
 
 /// Sets the number of inodes and of free ones.
@@ -27,7 +32,7 @@ pub fn set_counts(sector: &mut Sector, count: u32, free: u32)
 {
     put_u32(&mut sector.bytes, 16, count);
     put_u32(&mut sector.bytes, 28, free);
-    put_crc(&mut sector.bytes, 312);
+    put_crc(&mut sector.bytes, AGI_CRC_AT);
 }
 
 /// Sets the root of the inode btree and its level.
@@ -42,5 +47,5 @@ pub fn set_root(sector: &mut Sector, root: u32, level: u32)
 {
     put_u32(&mut sector.bytes, 20, root);
     put_u32(&mut sector.bytes, 24, level);
-    put_crc(&mut sector.bytes, 312);
+    put_crc(&mut sector.bytes, AGI_CRC_AT);
 }

@@ -4,7 +4,7 @@ ghost use Rattle.std.specs.Prelude.{◌≡◌};
 ghost use Rattle.life_bytes.specs.Pieces.{placed, blank};
 ghost use Rattle.ag_header.specs.Headers.{FieldsFit, IsAgi, EncodesHeader, header_fields};
 
-use crate::agi::Agi;
+use crate::agi::{AGI_CRC_AT, AGI_UNLINKED_AT, Agi};
 use crate::heads::bytes_of;
 use life_bytes::{Sector, put_bytes, put_crc, put_u32};
 use life_limits::NO_INODE;
@@ -34,7 +34,7 @@ fn with_fields(agi: &Agi) -> Sector
     put_u32(bytes, 28, free);
     put_u32(bytes, 32, NO_INODE);
     put_u32(bytes, 36, NO_INODE);
-    put_bytes(bytes, 40, &bytes_of(&agi.heads));
+    put_bytes(bytes, AGI_UNLINKED_AT, &bytes_of(&agi.heads));
     put_bytes(bytes, 296, &agi.uuid);
     sector
 }
@@ -45,6 +45,6 @@ pub fn write_agi(agi: &Agi, into: &mut Sector)
     ensures { EncodesHeader into.new.bytes agi.now }
 {
     let mut new = with_fields(agi);
-    put_crc(&mut new.bytes, 312);
+    put_crc(&mut new.bytes, AGI_CRC_AT);
     *into = new;
 }

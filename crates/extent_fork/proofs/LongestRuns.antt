@@ -6,6 +6,7 @@ use Rattle.std.proofs.lemmas.Bool.Decides.{eqb_tells}
 use Rattle.std.proofs.lemmas.List.{drop_more, drop_all, take_more_set}
 use Rattle.std.proofs.Math.ListN.{set}
 use Rattle.std.proofs.lemmas.List.Concat.{flat_map-cons}
+use Rattle.inode_core.specs.declared.shape.TheConstants.{FORK_AT}
 use Rattle.extent_fork.specs.declared.extent.Extent.{Extent}
 use Rattle.extent_fork.specs.Runs.{single, run_end, grown, runs_from, runs, blocks_of, AreApart, AreLongestRuns, LongestRunsAreOne}
 use Rattle.extent_fork.specs.Forks.{IsRun, AreRuns}
@@ -253,7 +254,7 @@ longest_are_one = record {
 pub forks_are_read : ForksAreRead
 forks_are_read = record {
   read = λ bytes count group list low few has.
-      let f : ℕ → Extent = λ k. run_in (field 16 (176 + 16 * k) bytes) in
+      let f : ℕ → Extent = λ k. run_in (field 16 (FORK_AT + 16 * k) bytes) in
       runs_read group list (runs_in count bytes) bytes count low few has (length-map-range_with_len f 0 count) (λ k d lt. get_or-map-range_with_len f 0 count k k d lt (omega arith));
   long = length-fork;
   for_blocks = λ blocks all. for_fork blocks (runs blocks) refl (λ k d lt. (all k d lt).1) (λ k d lt. (all k d lt).0);

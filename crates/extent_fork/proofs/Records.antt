@@ -8,6 +8,7 @@ use Rattle.byteorder.specs.Numbers.{big_number-reads_back}
 use Rattle.life_bytes.specs.Fields.{field, with_field, with_piece}
 use Rattle.life_bytes.specs.Pieces.{zeros}
 use Rattle.life_bytes.specs.TableLaws.{put_at_end, zeros_is, length-zeros}
+use Rattle.inode_core.specs.declared.shape.TheConstants.{FORK_AT}
 use Rattle.inode_core.specs.Cores.{fork_of}
 use Rattle.extent_fork.specs.declared.extent.Extent.{Extent}
 use Rattle.extent_fork.specs.Forks.{IsRun, HasFork, record_number, extent_records, fork}
@@ -73,13 +74,13 @@ all_bytes g list i bytes le ge so_far =
     so_far ∙ ap (λ (n : ℕ). extent_records g 0 (take n list) ++ zeros (336 - 16 * n)) same ∙ ap (λ (l : List Extent). extent_records g 0 l ++ zeros (336 - 16 * length list)) (take_all (length list) list (omega arith))
 
 -- the fork of a sector, and what stands before it, after the fork was put in
-pub fork_put : (f old new : List ℕ) → length f ≡ 336 → length old ≡ 512 → new ≡ with_piece (length f) 176 f old → fork_of new ≡ f
+pub fork_put : (f old new : List ℕ) → length f ≡ 336 → length old ≡ 512 → new ≡ with_piece (length f) FORK_AT f old → fork_of new ≡ f
 fork_put f old new long size put =
-    let nothing : drop (176 + length f) old ≡ [] = drop_all (176 + length f) old (omega (arith, long)) in
-    ap fork_of put ∙ drop_at (take 176 old) (f ++ drop (176 + length f) old) 176 (length-take-le 176 old (omega arith)) ∙ ap (λ (l : List ℕ). f ++ l) nothing ∙ append-nil f
+    let nothing : drop (FORK_AT + length f) old ≡ [] = drop_all (FORK_AT + length f) old (omega (arith, long)) in
+    ap fork_of put ∙ drop_at (take FORK_AT old) (f ++ drop (FORK_AT + length f) old) FORK_AT (length-take-le FORK_AT old (omega arith)) ∙ ap (λ (l : List ℕ). f ++ l) nothing ∙ append-nil f
 
-pub front_stays : (f old new : List ℕ) → length old ≡ 512 → new ≡ with_piece (length f) 176 f old → take 176 new ≡ take 176 old
-front_stays f old new size put = ap (take 176) put ∙ take_at (take 176 old) (f ++ drop (176 + length f) old) 176 (length-take-le 176 old (omega arith))
+pub front_stays : (f old new : List ℕ) → length old ≡ 512 → new ≡ with_piece (length f) FORK_AT f old → take FORK_AT new ≡ take FORK_AT old
+front_stays f old new size put = ap (take FORK_AT) put ∙ take_at (take FORK_AT old) (f ++ drop (FORK_AT + length f) old) FORK_AT (length-take-le FORK_AT old (omega arith))
 
 -- ---- reading
 
@@ -135,7 +136,7 @@ number_small : (g off : ℕ) (run : Extent) → g < 16 → off ≤ 344064 → Is
 number_small g off run group offset is = omega (arith, is.end)
 
 pub run_read : (g : ℕ) (list : List Extent) (i : ℕ) (d : Extent) (bytes : List ℕ) → g < 16 → length list ≤ 21 → AllByRecursion IsRun list → i < length list → fork_of bytes ≡ fork g list
-    → run_in (field 16 (176 + 16 * i) bytes) ≡ get_or list i d
+    → run_in (field 16 (FORK_AT + 16 * i) bytes) ≡ get_or list i d
 unfolding fork extent_records
 run_read g list i d bytes group few all lt encoded =
     let run = get_or list i d in
@@ -144,18 +145,18 @@ run_read g list i d bytes group few all lt encoded =
     let behind = zeros (336 - 16 * length list) in
     let others = extent_records g (off + run.count) (drop (i + 1) list) in
     let small : off ≤ 344064 = omega (arith, total-take list i, total_small list all) in
-    let from : drop (176 + 16 * i) bytes ≡ big_bytes 16 (record_number g off run) ++ (others ++ behind) =
-    sym (drop-drop (16 * i) 176 bytes) ∙ ap (drop (16 * i)) encoded ∙ drop-records g 0 list i behind (omega arith)
+    let from : drop (FORK_AT + 16 * i) bytes ≡ big_bytes 16 (record_number g off run) ++ (others ++ behind) =
+    sym (drop-drop (16 * i) FORK_AT bytes) ∙ ap (drop (16 * i)) encoded ∙ drop-records g 0 list i behind (omega arith)
     ∙ ap (λ (l : List Extent). extent_records g off l ++ behind) (drop_more list i d lt) ∙ append_assoc (big_bytes 16 (record_number g off run)) others behind in
     ap run_in (ap (big_from 0 16) from ∙ big_number-reads_back 16 (record_number g off run) (others ++ behind) (number_small g off run group small is)) ∙ number_gives g off run is
 
 pub runs_read : (g : ℕ) (list items : List Extent) (bytes : List ℕ) (extents : ℕ) → g < 16 → extents ≤ 21 → HasFork bytes extents g list → length items ≡ extents
-    → ((k : ℕ) (d : Extent) → k < extents → get_or items k d ≡ run_in (field 16 (176 + 16 * k) bytes)) → items ≡ list
+    → ((k : ℕ) (d : Extent) → k < extents → get_or items k d ≡ run_in (field 16 (FORK_AT + 16 * k) bytes)) → items ≡ list
 runs_read g list items bytes extents group few has many each =
     same_lists items list (many ∙ sym has.many)
     (λ k d lt. each k d (omega arith) ∙ run_read g list k d bytes group (omega (arith, has.many)) has.runs.each (omega (arith, has.many)) has.encoded)
 
 -- a sector is its front and its fork
-pub same_sector : (a b : List ℕ) → take 176 a ≡ take 176 b → fork_of a ≡ fork_of b → a ≡ b
+pub same_sector : (a b : List ℕ) → take FORK_AT a ≡ take FORK_AT b → fork_of a ≡ fork_of b → a ≡ b
 same_sector a b front back =
-    sym (take-append-drop 176 a) ∙ ap (λ (l : List ℕ). l ++ drop 176 a) front ∙ ap (λ (l : List ℕ). take 176 b ++ l) back ∙ take-append-drop 176 b
+    sym (take-append-drop FORK_AT a) ∙ ap (λ (l : List ℕ). l ++ drop FORK_AT a) front ∙ ap (λ (l : List ℕ). take FORK_AT b ++ l) back ∙ take-append-drop FORK_AT b

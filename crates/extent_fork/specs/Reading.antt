@@ -3,6 +3,7 @@ use Rattle.std.specs.Prelude.{◌≡◌, ◌≢◌, ◌≤◌, ◌<◌, ◌+◌,
 use Rattle.std.specs.List.{range_with_len, flat_map}
 use Rattle.life_limits.specs.declared.TheConstants.{FIRST_DATA_BLOCK, MAX_BLOCKS, MAX_EXTENTS, MAX_GROUPS}
 use Rattle.life_bytes.specs.Fields.{field}
+use Rattle.inode_core.specs.declared.shape.TheConstants.{FORK_AT}
 use Rattle.extent_fork.specs.declared.extent.Extent.{Extent}
 use Rattle.extent_fork.specs.Forks.{IsRun, AreRuns, HasFork, fork}
 use Rattle.extent_fork.specs.Runs.{blocks_of, runs}
@@ -17,7 +18,7 @@ IsRunAfter end run = IsRun run × (run.start ≢ end)
 
 -- the runs that the first records of a fork give, whatever else the fork holds
 abbrev pub runs_in : ℕ → List ℕ → List Extent
-runs_in count bytes = map (λ k. run_in (field 16 (176 + 16 * k) bytes)) (range_with_len 0 count)
+runs_in count bytes = map (λ k. run_in (field 16 (FORK_AT + 16 * k) bytes)) (range_with_len 0 count)
 
 -- a block that data may use
 abbrev pub CanBeDataBlock : ℕ → Type 0

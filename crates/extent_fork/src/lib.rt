@@ -1,4 +1,4 @@
-//! The extent fork: the runs of blocks that an inode has, from byte 176 of its sector on.
+//! The extent fork: the runs of blocks that an inode has, in its sector behind the core.
 //!
 //! A record has 16 bytes, one big-endian number. From the top bit: a flag, which is 0 here; 54 bits of
 //! offset in the file, in blocks; 52 bits of start block; 21 bits of count. The start block is the group

@@ -10,6 +10,7 @@ ghost use Rattle.extent_fork.specs.Reading.{IsRunAfter, run_in};
 use crate::extent::Extent;
 use crate::fault::ForkFault;
 use crate::writing::write_fork;
+use inode_core::FORK_AT;
 use life_bytes::{Sector, field_u128};
 use life_limits::{FIRST_DATA_BLOCK, MAX_BLOCKS, MAX_EXTENTS, MAX_GROUPS};
 use std::alloc::Global;
@@ -17,9 +18,9 @@ use std::alloc::Global;
 /// The start and the count that the record at an index gives, whatever else it holds.
 fn run_at(sector: &Sector, index: u32) -> Extent
     requires { index < MAX_EXTENTS }
-    ensures { result ≡ run_in (field 16 (176 + 16 * index) sector.now.bytes) }
+    ensures { result ≡ run_in (field 16 (FORK_AT + 16 * index) sector.now.bytes) }
 {
-    let number = field_u128(&sector.bytes, 176 + 16 * index as usize);
+    let number = field_u128(&sector.bytes, FORK_AT + 16 * index as usize);
     Extent {
         start: (number / 0x20_0000 % 0x4000) as u32,
         count: (number % 0x20_0000) as u32,
@@ -29,7 +30,7 @@ fn run_at(sector: &Sector, index: u32) -> Extent
 fn runs_at(alloc: Global, sector: &Sector, extents: u32) -> Result<Vec<Extent>, ForkFault>
     requires { extents ≤ MAX_EXTENTS }
     ensures count { IfOk result (λ v. length v.items ≡ extents) }
-    ensures each { IfOk result (λ v. (k : ℕ) (d : Extent) → k < extents → get_or v.items k d ≡ run_in (field 16 (176 + 16 * k) sector.now.bytes)) }
+    ensures each { IfOk result (λ v. (k : ℕ) (d : Extent) → k < extents → get_or v.items k d ≡ run_in (field 16 (FORK_AT + 16 * k) sector.now.bytes)) }
     ensures memory { result ≢ Err ForkFault.Malformed }
 {
     let mut list = Vec::with_capacity(alloc, MAX_EXTENTS as usize)?;

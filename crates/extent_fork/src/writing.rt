@@ -5,6 +5,7 @@ ghost use Rattle.inode_core.specs.Cores.{fork_of};
 ghost use Rattle.extent_fork.specs.Forks.{AreRuns, fork, record_number};
 
 use crate::extent::Extent;
+use inode_core::FORK_AT;
 use life_bytes::{Sector, put_bytes, put_u128};
 use life_limits::{MAX_BLOCKS, MAX_EXTENTS, MAX_GROUPS};
 
@@ -43,7 +44,7 @@ pub fn write_fork(list: &[Extent], group: u32, into: &mut Sector)
     requires few { length list.now ≤ MAX_EXTENTS }
     requires group_small { group < MAX_GROUPS }
     ensures fork { fork_of into.new.bytes ≡ fork group list.now }
-    ensures front { take 176 into.new.bytes ≡ take 176 into.old.bytes }
+    ensures front { take FORK_AT into.new.bytes ≡ take FORK_AT into.old.bytes }
 {
-    put_bytes(&mut into.bytes, 176, &fork_bytes(list, group));
+    put_bytes(&mut into.bytes, FORK_AT, &fork_bytes(list, group));
 }

@@ -3,6 +3,7 @@ use Rattle.std.proofs.Common.{◌≡◌, ℕ, List, take, drop, refl, ap, sym, �
 use Rattle.life_bytes.specs.Fields.{field}
 use Rattle.life_bytes.specs.Pieces.{piece}
 use Rattle.life_bytes.specs.TableLaws.{AreFields, sealed_row, sealed_number}
+use Rattle.geometry.specs.declared.superblock.TheConstants.{SUPERBLOCK_CRC_AT}
 use Rattle.geometry.specs.declared.shape.Geometry.{Geometry}
 use Rattle.geometry.specs.Shape.{IsGeometry}
 use Rattle.geometry.specs.Superblock.{superblock, superblock_encoding, SuperblocksTell}
@@ -22,11 +23,11 @@ pub record Says (g : Geometry) (bytes : List ℕ) : Type 0 where
 pub says : (g : Geometry) → IsGeometry g → Says g (superblock_encoding g)
 unfolding superblock_encoding
 says g is = record {
-  version = sealed_number 40 (superblock g) 1 4 4 g.version (rows g is) (lit≤ tt) refl refl (omega (arith, is.version));
-  groups = sealed_number 40 (superblock g) 2 8 4 g.groups (rows g is) (lit≤ tt) refl refl (omega (arith, is.groups));
-  blocks = sealed_number 40 (superblock g) 3 12 4 g.blocks (rows g is) (lit≤ tt) refl refl (omega (arith, is.blocks));
-  ring = sealed_number 40 (superblock g) 4 16 4 g.ring (rows g is) (lit≤ tt) refl refl (omega (arith, is.ring));
-  uuid = sealed_row 40 (superblock g) 5 (piece 24 16 g.uuid) (rows g is) (lit≤ tt) refl refl;
+  version = sealed_number SUPERBLOCK_CRC_AT (superblock g) 1 4 4 g.version (rows g is) (lit≤ tt) refl refl (omega (arith, is.version));
+  groups = sealed_number SUPERBLOCK_CRC_AT (superblock g) 2 8 4 g.groups (rows g is) (lit≤ tt) refl refl (omega (arith, is.groups));
+  blocks = sealed_number SUPERBLOCK_CRC_AT (superblock g) 3 12 4 g.blocks (rows g is) (lit≤ tt) refl refl (omega (arith, is.blocks));
+  ring = sealed_number SUPERBLOCK_CRC_AT (superblock g) 4 16 4 g.ring (rows g is) (lit≤ tt) refl refl (omega (arith, is.ring));
+  uuid = sealed_row SUPERBLOCK_CRC_AT (superblock g) 5 (piece 24 16 g.uuid) (rows g is) (lit≤ tt) refl refl;
 }
 
 abbrev made : ℕ → ℕ → ℕ → ℕ → List ℕ → Geometry

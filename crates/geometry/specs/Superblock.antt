@@ -1,6 +1,7 @@
 -- The superblock as a sector.
 use Rattle.std.specs.Prelude.{◌≡◌, ℕ, List, [], ◌∷◌}
 use Rattle.life_bytes.specs.Pieces.{Field, number, piece, placed, blank, sealed}
+use Rattle.geometry.specs.declared.superblock.TheConstants.{SUPERBLOCK_CRC_AT}
 use Rattle.geometry.specs.declared.shape.Geometry.{Geometry}
 use Rattle.geometry.specs.Shape.{IsGeometry}
 
@@ -18,9 +19,9 @@ superblock g =
     ∷ piece 24 16 g.uuid
     ∷ []
 
--- the sector that encodes a geometry: its fields over zeros, and the checksum at byte 40
+-- the sector that encodes a geometry: its fields over zeros, and the checksum in its place
 unfoldable pub superblock_encoding : Geometry → List ℕ
-superblock_encoding g = sealed 40 (placed (superblock g) blank)
+superblock_encoding g = sealed SUPERBLOCK_CRC_AT (placed (superblock g) blank)
 
 -- no sector encodes two geometries
 abbrev pub SuperblocksTell : Type 0

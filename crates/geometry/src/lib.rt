@@ -9,4 +9,4 @@ mod superblock;
 pub use laws::superblocks_tell_geometries;
 pub use places::{image_sectors, number, sector_of, split, word_at};
 pub use shape::{Damaged, Geometry};
-pub use superblock::{read_super, write_super};
+pub use superblock::{SUPERBLOCK_CRC_AT, read_super, write_super};

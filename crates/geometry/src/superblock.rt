@@ -22,6 +22,9 @@ use crate::shape::{Damaged, Geometry};
 use life_bytes::{Sector, field_u32, put_crc, put_u32};
 use life_limits::{MAX_BLOCKS, MAX_GROUPS, MAX_RING, MIN_BLOCKS, MIN_RING, VERSION};
 
+/// The byte at which the checksum of a superblock stands: XFS names the field `sb_crc`.
+pub const SUPERBLOCK_CRC_AT: usize = 40;
+
 const MAGIC: u32 = 0x4c49_4645;
 
 /// The geometry that the fields give, whatever else the sector holds.
@@ -95,6 +98,6 @@ pub fn write_super(g: &Geometry, into: &mut Sector)
     put_u32(&mut new.bytes, 12, g.blocks);
     put_u32(&mut new.bytes, 16, g.ring);
     new.bytes[24..40].copy_from_slice(&g.uuid);
-    put_crc(&mut new.bytes, 40);
+    put_crc(&mut new.bytes, SUPERBLOCK_CRC_AT);
     *into = new;
 }

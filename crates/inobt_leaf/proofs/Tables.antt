@@ -5,6 +5,7 @@ use Rattle.std.proofs.lemmas.List.{append_assoc, append-nil, length-take-le, tak
 use Rattle.life_bytes.specs.Fields.{with_piece}
 use Rattle.life_bytes.specs.Pieces.{Field, placed}
 use Rattle.life_bytes.specs.TableLaws.{AreFields, IsAside, is_aside, placed_other, field_at, length-placed}
+use Rattle.inobt_leaf.specs.declared.writing.TheConstants.{LEAF_RECORDS_AT}
 use Rattle.inobt_leaf.specs.declared.chunk.ChunkRec.{ChunkRec}
 use Rattle.inobt_leaf.specs.Pages.{chunk_rows, chunk_records}
 
@@ -23,17 +24,17 @@ records-append place (x ∷ xs) ys =
 
 -- one record more
 pub records_more : (chunks : List ChunkRec) (i : ℕ) (d : ChunkRec) (base : List ℕ) → i < length chunks
-    → placed (chunk_rows (56 + 16 * i) (get_or chunks i d)) (placed (chunk_records 56 (take i chunks)) base) ≡ placed (chunk_records 56 (take (i + 1) chunks)) base
+    → placed (chunk_rows (LEAF_RECORDS_AT + 16 * i) (get_or chunks i d)) (placed (chunk_records LEAF_RECORDS_AT (take i chunks)) base) ≡ placed (chunk_records LEAF_RECORDS_AT (take (i + 1) chunks)) base
 records_more chunks i d base h =
     let count : length (take i chunks) ≡ i = length-take-le i chunks (omega arith) in
     let chunk : ChunkRec = get_or chunks i d in
     sym (
-    ap (λ (cs : List ChunkRec). placed (chunk_records 56 cs) base) (take_more chunks i d h)
+    ap (λ (cs : List ChunkRec). placed (chunk_records LEAF_RECORDS_AT cs) base) (take_more chunks i d h)
     ∙ ap (λ (rows : List Field). placed rows base) (
-    records-append 56 (take i chunks) (chunk ∷ [])
-    ∙ ap (λ (n : ℕ). chunk_records 56 (take i chunks) ++ chunk_records (56 + 16 * n) (chunk ∷ [])) count
-    ∙ ap (λ (rows : List Field). chunk_records 56 (take i chunks) ++ rows) (append-nil (chunk_rows (56 + 16 * i) chunk)))
-    ∙ placed-append (chunk_records 56 (take i chunks)) (chunk_rows (56 + 16 * i) chunk) base)
+    records-append LEAF_RECORDS_AT (take i chunks) (chunk ∷ [])
+    ∙ ap (λ (n : ℕ). chunk_records LEAF_RECORDS_AT (take i chunks) ++ chunk_records (LEAF_RECORDS_AT + 16 * n) (chunk ∷ [])) count
+    ∙ ap (λ (rows : List Field). chunk_records LEAF_RECORDS_AT (take i chunks) ++ rows) (append-nil (chunk_rows (LEAF_RECORDS_AT + 16 * i) chunk)))
+    ∙ placed-append (chunk_records LEAF_RECORDS_AT (take i chunks)) (chunk_rows (LEAF_RECORDS_AT + 16 * i) chunk) base)
 
 -- rows within a page
 AreRows-append : (size : ℕ) (xs ys : List Field) → AreFields size xs → AreFields size ys → AreFields size (xs ++ ys)

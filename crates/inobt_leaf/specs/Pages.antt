@@ -4,6 +4,7 @@ use Rattle.std.specs.List.{range_with_len}
 use Rattle.life_limits.specs.declared.TheConstants.{BLOCK_BYTES}
 use Rattle.life_bytes.specs.Fields.{field}
 use Rattle.life_bytes.specs.Pieces.{Field, number, piece, placed, sealed}
+use Rattle.inobt_leaf.specs.declared.writing.TheConstants.{LEAF_CRC_AT, LEAF_RECORDS_AT}
 use Rattle.inobt_leaf.specs.declared.chunk.ChunkRec.{ChunkRec}
 use Rattle.inobt_leaf.specs.declared.siblings.Siblings.{Siblings}
 
@@ -58,10 +59,10 @@ chunk_records place (chunk ∷ chunks) = chunk_rows place chunk ++ chunk_records
 unfoldable pub blank_page : List ℕ
 blank_page = replicate BLOCK_BYTES 0
 
--- the page of a leaf between its siblings: its fields over zeros, and the checksum at byte 52
+-- the page of a leaf between its siblings: its fields over zeros, and the checksum in its place
 unfoldable pub leaf_encoding : Siblings → List ChunkRec → ℕ → ℕ → List ℕ → List ℕ
 leaf_encoding siblings chunks group at uuid =
-    sealed 52 (placed (page_header siblings (length chunks) group at uuid ++ chunk_records 56 chunks) blank_page)
+    sealed LEAF_CRC_AT (placed (page_header siblings (length chunks) group at uuid ++ chunk_records LEAF_RECORDS_AT chunks) blank_page)
 
 -- the page of the only leaf of a tree
 abbrev pub page_encoding : List ChunkRec → ℕ → ℕ → List ℕ → List ℕ
@@ -73,4 +74,4 @@ chunk_at bytes place = record { start = field 4 place bytes; free = field 4 (pla
 
 -- the chunks that a page's records give, whatever else the page holds
 abbrev pub chunks_in : List ℕ → List ChunkRec
-chunks_in bytes = map (λ i. chunk_at bytes (56 + 16 * i)) (range_with_len 0 (field 2 6 bytes))
+chunks_in bytes = map (λ i. chunk_at bytes (LEAF_RECORDS_AT + 16 * i)) (range_with_len 0 (field 2 6 bytes))

@@ -17,4 +17,4 @@ pub use leaf::{Leaf, LeafFault};
 pub use masks::masks_change_by_one_bit;
 pub use reading::{PageFault, read_leaf, read_page};
 pub use siblings::Siblings;
-pub use writing::{write_empty_page, write_leaf, write_page};
+pub use writing::{LEAF_CRC_AT, LEAF_RECORDS_AT, write_empty_page, write_leaf, write_page};

@@ -13,7 +13,7 @@ use crate::chunk::ChunkRec;
 use crate::leaf::{LEAF_CHUNKS, Leaf};
 use crate::sectors::gather;
 use crate::siblings::Siblings;
-use crate::writing::{HEADER_BYTES, RECORD_BYTES, encode};
+use crate::writing::{LEAF_RECORDS_AT, RECORD_BYTES, encode};
 use life_bytes::{Sector, field_u16, field_u32, field_u64};
 use life_limits::CHUNK_INODES;
 use std::alloc::{AllocError, Global};
@@ -72,12 +72,12 @@ fn read_record(bytes: &[u8], place: usize) -> ChunkRec
 }
 
 fn read_records(alloc: Global, bytes: &[u8], count: usize) -> Result<Vec<ChunkRec>, AllocError>
-    requires { 56 + 16 * count ≤ length bytes.now }
-    ensures { IfOk result (λ chunks. chunks.items ≡ map (λ i. chunk_at bytes.now (56 + 16 * i)) (range_with_len 0 count)) }
+    requires { LEAF_RECORDS_AT + 16 * count ≤ length bytes.now }
+    ensures { IfOk result (λ chunks. chunks.items ≡ map (λ i. chunk_at bytes.now (LEAF_RECORDS_AT + 16 * i)) (range_with_len 0 count)) }
 {
     let mut chunks = Vec::with_capacity(alloc, count)?;
     for index in 0..count {
-        chunks.push(read_record(bytes, HEADER_BYTES + RECORD_BYTES * index))?;
+        chunks.push(read_record(bytes, LEAF_RECORDS_AT + RECORD_BYTES * index))?;
     }
     Ok(chunks)
 }

@@ -15,13 +15,14 @@ use life_bytes::{Sector, put_crc, put_u16, put_u32, put_u64};
 
 const MAGIC: u32 = 0x4941_4233;
 
-/// Where the records begin.
-pub const HEADER_BYTES: usize = 56;
+/// The byte of a leaf's page at which its records begin: XFS names the bytes of the header before them `XFS_BTREE_SBLOCK_CRC_LEN`.
+pub const LEAF_RECORDS_AT: usize = 56;
 
 /// How many bytes a record has.
 pub const RECORD_BYTES: usize = 16;
 
-const CRC_AT: usize = 52;
+/// The byte at which the checksum of a leaf's page stands: XFS names the field `bb_crc`.
+pub const LEAF_CRC_AT: usize = 52;
 
 #[tactic(auto, unfolding(crate::specs::Pages::blank_page))]
 fn blank_page() -> [u8; PAGE_BYTES]
@@ -62,10 +63,10 @@ fn put_record(bytes: &mut [u8], place: usize, chunk: &ChunkRec)
 fn put_records(bytes: &mut [u8], chunks: &[ChunkRec])
     requires long { length bytes.old ≡ BLOCK_BYTES }
     requires few { length chunks.now ≤ MAX_LEAF_RECORDS }
-    ensures { bytes.new ≡ placed (chunk_records 56 chunks.now) bytes.old }
+    ensures { bytes.new ≡ placed (chunk_records LEAF_RECORDS_AT chunks.now) bytes.old }
 {
     for (index, chunk) in chunks.iter().enumerate() {
-        put_record(bytes, HEADER_BYTES + RECORD_BYTES * index, chunk);
+        put_record(bytes, LEAF_RECORDS_AT + RECORD_BYTES * index, chunk);
     }
 }
 
@@ -83,7 +84,7 @@ pub fn encode(
     let mut bytes = blank_page();
     put_header(&mut bytes, siblings, chunks.len() as u16, group, at, uuid);
     put_records(&mut bytes, chunks);
-    put_crc(&mut bytes, CRC_AT);
+    put_crc(&mut bytes, LEAF_CRC_AT);
     bytes
 }
 

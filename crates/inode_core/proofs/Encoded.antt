@@ -4,12 +4,13 @@ use Rattle.std.proofs.lemmas.List.{take_all, length-drop}
 use Rattle.life_bytes.specs.Fields.{field, with_field, with_piece}
 use Rattle.life_bytes.specs.Pieces.{Field, placed, blank, sealed, piece}
 use Rattle.life_bytes.specs.TableLaws.{AreFields, sealed_row, sealed_number, length-sealed_table}
+use Rattle.inode_core.specs.declared.shape.TheConstants.{CORE_CRC_AT, FORK_AT}
 use Rattle.inode_core.specs.declared.shape.Core.{Core}
 use Rattle.inode_core.specs.Cores.{IsCore, mode_of, fork_of, no_fork, core_fields, core_encoding, EncodesCore}
 use Rattle.inode_core.specs.Reading.{core_in, CoresAreRead}
 
 abbrev table : Core → ℕ → List ℕ → List ℕ → List Field
-table core ino uuid fork = core_fields core ino uuid ++ (piece 176 336 fork ∷ [])
+table core ino uuid fork = core_fields core ino uuid ++ (piece FORK_AT 336 fork ∷ [])
 
 rows : (core : Core) (ino : ℕ) (uuid fork : List ℕ) → length uuid ≡ 16 → length fork ≡ 336 → AreFields 512 (table core ino uuid fork)
 rows core ino uuid fork wide long = (
@@ -75,13 +76,13 @@ says core ino uuid fork is wide long =
     let ok = rows core ino uuid fork wide long in
     let bound = small core is in
     record {
-      mode = ap (λ (m : ℕ). eqb m 0x81A4) (sealed_number 100 t 1 2 2 (mode_of core.live) ok (lit≤ tt) refl refl (mode_small core.live)) ∙ live_from_mode core.live;
-      links = sealed_number 100 t 4 16 4 core.links ok (lit≤ tt) refl refl bound.links;
-      size = sealed_number 100 t 5 56 8 core.size ok (lit≤ tt) refl refl bound.size;
-      blocks = sealed_number 100 t 6 64 8 core.blocks ok (lit≤ tt) refl refl bound.blocks;
-      extents = sealed_number 100 t 7 76 4 core.extents ok (lit≤ tt) refl refl bound.extents;
-      generation = sealed_number 100 t 8 92 4 core.generation ok (lit≤ tt) refl refl bound.generation;
-      next = sealed_number 100 t 9 96 4 core.next ok (lit≤ tt) refl refl bound.next;
+      mode = ap (λ (m : ℕ). eqb m 0x81A4) (sealed_number CORE_CRC_AT t 1 2 2 (mode_of core.live) ok (lit≤ tt) refl refl (mode_small core.live)) ∙ live_from_mode core.live;
+      links = sealed_number CORE_CRC_AT t 4 16 4 core.links ok (lit≤ tt) refl refl bound.links;
+      size = sealed_number CORE_CRC_AT t 5 56 8 core.size ok (lit≤ tt) refl refl bound.size;
+      blocks = sealed_number CORE_CRC_AT t 6 64 8 core.blocks ok (lit≤ tt) refl refl bound.blocks;
+      extents = sealed_number CORE_CRC_AT t 7 76 4 core.extents ok (lit≤ tt) refl refl bound.extents;
+      generation = sealed_number CORE_CRC_AT t 8 92 4 core.generation ok (lit≤ tt) refl refl bound.generation;
+      next = sealed_number CORE_CRC_AT t 9 96 4 core.next ok (lit≤ tt) refl refl bound.next;
     }
 
 pub fork_of-encoding : (core : Core) (ino : ℕ) (uuid fork : List ℕ) → length uuid ≡ 16 → length fork ≡ 336 → fork_of (core_encoding core ino uuid fork) ≡ fork
@@ -89,12 +90,12 @@ unfolding core_encoding
 fork_of-encoding core ino uuid fork wide long =
     let t = table core ino uuid fork in
     let ok = rows core ino uuid fork wide long in
-    let s = sealed 100 (placed t blank) in
-    let size : length s ≡ 512 = length-sealed_table 100 t ok (lit≤ tt) in
-    sym (take_all 336 (drop 176 s) (omega (arith, length-drop 176 s))) ∙ sealed_row 100 t 12 (piece 176 336 fork) ok (lit≤ tt) refl refl
+    let s = sealed CORE_CRC_AT (placed t blank) in
+    let size : length s ≡ 512 = length-sealed_table CORE_CRC_AT t ok (lit≤ tt) in
+    sym (take_all 336 (drop FORK_AT s) (omega (arith, length-drop FORK_AT s))) ∙ sealed_row CORE_CRC_AT t 12 (piece FORK_AT 336 fork) ok (lit≤ tt) refl refl
 
-pub whole_fork : (bytes : List ℕ) → length bytes ≡ 512 → take 336 (drop 176 bytes) ≡ fork_of bytes
-whole_fork bytes size = take_all 336 (drop 176 bytes) (omega (arith, length-drop 176 bytes))
+pub whole_fork : (bytes : List ℕ) → length bytes ≡ 512 → take 336 (drop FORK_AT bytes) ≡ fork_of bytes
+whole_fork bytes size = take_all 336 (drop FORK_AT bytes) (omega (arith, length-drop FORK_AT bytes))
 
 -- one core before one fork is one sector
 pub one_sector : (a b : List ℕ) (ino : ℕ) (uuid : List ℕ) (core : Core) → EncodesCore a ino uuid core → EncodesCore b ino uuid core → fork_of a ≡ fork_of b → a ≡ b
@@ -124,10 +125,10 @@ pub record IsWritten (core : Core) (ino : ℕ) (uuid old new : List ℕ) : Type 
   pub same_fork : fork_of new ≡ fork_of old
 
 pub is_written : (core : Core) (ino : ℕ) (uuid old plain part forked new : List ℕ) → length uuid ≡ 16 → length old ≡ 512 → IsCore core → (core.live ≡ false → fork_of old ≡ no_fork)
-    → plain ≡ placed (core_fields core ino uuid) blank → part ≡ fork_of old → forked ≡ with_piece (length part) 176 part plain → new ≡ sealed 100 forked → IsWritten core ino uuid old new
+    → plain ≡ placed (core_fields core ino uuid) blank → part ≡ fork_of old → forked ≡ with_piece (length part) FORK_AT part plain → new ≡ sealed CORE_CRC_AT forked → IsWritten core ino uuid old new
 unfolding core_encoding placed
 is_written core ino uuid old plain part forked new wide size is free p q r s =
-    let long : length (fork_of old) ≡ 336 = omega (arith, length-drop 176 old) in
+    let long : length (fork_of old) ≡ 336 = omega (arith, length-drop FORK_AT old) in
     let e : new ≡ core_encoding core ino uuid (fork_of old) = is_encoding core ino uuid (fork_of old) plain part forked new long p q r s in
     let same : fork_of new ≡ fork_of old = ap fork_of e ∙ fork_of-encoding core ino uuid (fork_of old) wide long in
     record {
@@ -136,7 +137,7 @@ is_written core ino uuid old plain part forked new wide size is free p q r s =
     }
   where
     is_encoding : (core : Core) (ino : ℕ) (uuid fork plain part forked new : List ℕ) → length fork ≡ 336 → plain ≡ placed (core_fields core ino uuid) blank → part ≡ fork
-        → forked ≡ with_piece (length part) 176 part plain → new ≡ sealed 100 forked → new ≡ core_encoding core ino uuid fork
+        → forked ≡ with_piece (length part) FORK_AT part plain → new ≡ sealed CORE_CRC_AT forked → new ≡ core_encoding core ino uuid fork
     is_encoding core ino uuid fork plain part forked new long p q r s = rw (s, r, q, p, long) refl
 
 -- ---- reading
@@ -160,7 +161,7 @@ pub is_read : (read core : Core) (ino : ℕ) (bytes uuid : List ℕ) → length 
     → read.size ≡ field 8 56 bytes → read.blocks ≡ field 8 64 bytes → read.extents ≡ field 4 76 bytes → read.generation ≡ field 4 92 bytes → read.next ≡ field 4 96 bytes
     → EncodesCore bytes ino uuid core → read ≡ core
 is_read read core ino bytes uuid wide size live links bytes_size blocks extents generation next s =
-    let long : length (fork_of bytes) ≡ 336 = omega (arith, length-drop 176 bytes) in
+    let long : length (fork_of bytes) ≡ 336 = omega (arith, length-drop FORK_AT bytes) in
     let say = says core ino uuid (fork_of bytes) s.allowed wide long in
     same read core (live ∙ ap (λ (b : List ℕ). eqb (field 2 2 b) 0x81A4) s.sector ∙ say.mode) (links ∙ ap (field 4 16) s.sector ∙ say.links)
     (bytes_size ∙ ap (field 8 56) s.sector ∙ say.size) (blocks ∙ ap (field 8 64) s.sector ∙ say.blocks) (extents ∙ ap (field 4 76) s.sector ∙ say.extents)
@@ -177,7 +178,7 @@ same_fork core ino uuid bytes given live free s = by core.live refl
 
 pub length-encoding : (core : Core) (ino : ℕ) (uuid fork : List ℕ) → length uuid ≡ 16 → length fork ≡ 336 → length (core_encoding core ino uuid fork) ≡ 512
 unfolding core_encoding
-length-encoding core ino uuid fork wide long = length-sealed_table 100 (table core ino uuid fork) (rows core ino uuid fork wide long) (lit≤ tt)
+length-encoding core ino uuid fork wide long = length-sealed_table CORE_CRC_AT (table core ino uuid fork) (rows core ino uuid fork wide long) (lit≤ tt)
 
 pub cores_are_read : CoresAreRead
 cores_are_read = record {

@@ -2,6 +2,7 @@
 use Rattle.std.specs.Prelude.{◌≡◌, ◌<◌, ◌≤◌, ◌*◌, ◌^◌, ℕ, List, [], ◌∷◌, ◌++◌, Bool, true, false, drop, if◌then◌else◌}
 use Rattle.life_limits.specs.declared.TheConstants.{BLOCK_BYTES, MAX_LINKS, MAX_EXTENTS, MAX_GENERATION, NO_INODE}
 use Rattle.life_bytes.specs.Pieces.{Field, number, piece, placed, zeros, blank, sealed}
+use Rattle.inode_core.specs.declared.shape.TheConstants.{CORE_CRC_AT, FORK_AT}
 use Rattle.inode_core.specs.declared.shape.Core.{Core}
 
 -- the fields of an inode in use
@@ -31,9 +32,9 @@ pub record IsCore (core : Core) : Type 0 where
 abbrev pub mode_of : Bool → ℕ
 mode_of live = if live then 0x81A4 else 0
 
--- the fork: the bytes of a sector from 176 on
+-- the fork: the bytes of a sector behind the core
 abbrev pub fork_of : List ℕ → List ℕ
-fork_of bytes = drop 176 bytes
+fork_of bytes = drop FORK_AT bytes
 
 abbrev pub no_fork : List ℕ
 no_fork = zeros 336
@@ -54,9 +55,9 @@ core_fields core ino uuid =
     ∷ piece 160 16 uuid
     ∷ []
 
--- the sector that encodes a core before a fork, with the checksum at byte 100
+-- the sector that encodes a core before a fork, with the checksum in its place
 unfoldable pub core_encoding : Core → ℕ → List ℕ → List ℕ → List ℕ
-core_encoding core ino uuid fork = sealed 100 (placed (core_fields core ino uuid ++ (piece 176 336 fork ∷ [])) blank)
+core_encoding core ino uuid fork = sealed CORE_CRC_AT (placed (core_fields core ino uuid ++ (piece FORK_AT 336 fork ∷ [])) blank)
 
 -- the sector encodes the core, under this number and uuid
 pub record EncodesCore (bytes : List ℕ) (ino : ℕ) (uuid : List ℕ) (core : Core) : Type 0 where

@@ -27,5 +27,5 @@ mod writing;
 
 pub use laws::encoded_cores_are_read;
 pub use reading::read_core;
-pub use shape::Core;
+pub use shape::{CORE_CRC_AT, Core, FORK_AT};
 pub use writing::write_core;

@@ -1,5 +1,11 @@
 //! What an inode core tells.
 
+/// The byte at which the checksum of a core stands: XFS names the field `di_crc`.
+pub const CORE_CRC_AT: usize = 100;
+
+/// The byte of an inode's sector at which its fork begins, right behind the core: where `XFS_DFORK_DPTR` of XFS points in an inode of version 3.
+pub const FORK_AT: usize = 176;
+
 /// An inode's fields.
 #[derive(Clone, Copy, Debug, PartialEq, Eq)]
 pub struct Core {

@@ -4,7 +4,7 @@ ghost use Rattle.std.specs.Prelude.{◌≡◌, false};
 ghost use Rattle.life_bytes.specs.Pieces.{placed, blank};
 ghost use Rattle.inode_core.specs.Cores.{IsCore, EncodesCore, core_fields, fork_of, mode_of, no_fork};
 
-use crate::shape::Core;
+use crate::shape::{CORE_CRC_AT, Core, FORK_AT};
 use life_bytes::{Sector, put_bytes, put_crc, put_u8, put_u16, put_u32, put_u64};
 
 pub(crate) const MAGIC: u16 = 0x494e;
@@ -50,7 +50,7 @@ pub fn write_core(core: &Core, number: u64, uuid: &[u8; 16], into: &mut Sector)
     ensures same_fork { fork_of into.new.bytes ≡ fork_of into.old.bytes }
 {
     let mut new = with_fields(core, number, uuid);
-    put_bytes(&mut new.bytes, 176, &into.bytes[176..]);
-    put_crc(&mut new.bytes, 100);
+    put_bytes(&mut new.bytes, FORK_AT, &into.bytes[FORK_AT..]);
+    put_crc(&mut new.bytes, CORE_CRC_AT);
     *into = new;
 }

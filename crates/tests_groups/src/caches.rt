@@ -2,7 +2,7 @@ ghost use Rattle.std.specs.Prelude.{IfOk};
 ghost use Rattle.inode_cache.specs.Inodes.{IsIncore};
 
 use inode_cache::{CLUSTER_INODES, Incore, NumberSet, begin_cache};
-use inode_core::{Core, read_core};
+use inode_core::{Core, FORK_AT, read_core};
 use life_bytes::Sector;
 use life_ports::NoMemory;
 use life_table::Listed;
@@ -72,7 +72,7 @@ fn a_changed_inode_is_flushed(rt: HostRuntime) -> Result<(), Fail> {
     let written = buffers[0];
     assert_eq!(rt; read_core(&written, 192, &UUID), Some(THREE));
     assert_eq!(rt;
-        &written.bytes[176..192],
+        &written.bytes[FORK_AT..FORK_AT + 16],
         b"\0\0\0\0\0\0\0\0\0\0\0\0\x04\0\0\x03".as_slice()
     );
     assert!(rt; buffers[1..] == before[1..]);

@@ -4,9 +4,11 @@ ghost use Rattle.life_bytes.specs.Sectors.{zero_sector};
 ghost use Rattle.disk_model.specs.Disk.{settled_as};
 ghost use Rattle.disk_model.specs.MemoryDisk.{cells_of};
 
+use ag_header::AGI_CRC_AT;
 use disk_model::{Disk, FaultDisk, MemoryDisk};
-use geometry::Geometry;
+use geometry::{Geometry, SUPERBLOCK_CRC_AT};
 use image_make::{MakeFault, make};
+use inobt_leaf::LEAF_CRC_AT;
 use life_bytes::{Sector, put_bytes, put_u8};
 use std::alloc::Global;
 use std::test::Fail;
@@ -34,7 +36,7 @@ fn header(group: u8, checksum: &[u8; 4]) -> Sector {
     );
     put_bytes(&mut sector.bytes, 32, &[0xff; 264]);
     put_bytes(&mut sector.bytes, 296, &UUID);
-    put_bytes(&mut sector.bytes, 312, checksum);
+    put_bytes(&mut sector.bytes, AGI_CRC_AT, checksum);
     sector
 }
 
@@ -49,7 +51,7 @@ fn page(group: u8, at: &[u8; 2], checksum: &[u8; 4]) -> Sector {
     put_bytes(&mut sector.bytes, 22, at);
     put_bytes(&mut sector.bytes, 32, &UUID);
     put_u8(&mut sector.bytes, 51, group);
-    put_bytes(&mut sector.bytes, 52, checksum);
+    put_bytes(&mut sector.bytes, LEAF_CRC_AT, checksum);
     sector
 }
 
@@ -62,7 +64,7 @@ fn superblock() -> Sector {
         b"LIFE\0\0\0\x01\0\0\0\x02\0\0\0\x40\0\0\x01\0",
     );
     put_bytes(&mut sector.bytes, 24, &UUID);
-    put_bytes(&mut sector.bytes, 40, b"\xe4\xe2\x95\x27");
+    put_bytes(&mut sector.bytes, SUPERBLOCK_CRC_AT, b"\xe4\xe2\x95\x27");
     sector
 }
 

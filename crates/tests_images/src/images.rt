@@ -1,7 +1,10 @@
 // A sound image, built byte by byte from the tables of the format, and changed byte by byte.
+use ag_header::{AGI_CRC_AT, AGI_UNLINKED_AT};
 use disk_model::MemoryDisk;
-use geometry::Geometry;
+use geometry::{Geometry, SUPERBLOCK_CRC_AT};
 use image_rules::Tables;
+use inobt_leaf::{LEAF_CRC_AT, LEAF_RECORDS_AT};
+use inode_core::{CORE_CRC_AT, FORK_AT};
 use inspect::{InspectFault, inspect};
 use life_bytes::{Sector, put_crc, put_u16, put_u32, put_u64};
 use std::alloc::Global;
@@ -53,7 +56,7 @@ fn superblock() -> Sector {
     put_u32(&mut sector.bytes, 12, 64);
     put_u32(&mut sector.bytes, 16, 256);
     sector.bytes[24..40].copy_from_slice(&UUID);
-    put_crc(&mut sector.bytes, 40);
+    put_crc(&mut sector.bytes, SUPERBLOCK_CRC_AT);
     sector
 }
 
@@ -80,9 +83,9 @@ fn header(group: u32) -> Sector {
     for i in 0..66 {
         put_u32(&mut sector.bytes, 32 + 4 * i, NO_INODE);
     }
-    put_u32(&mut sector.bytes, 44, 193);
+    put_u32(&mut sector.bytes, AGI_UNLINKED_AT + 4, 193);
     sector.bytes[296..312].copy_from_slice(&UUID);
-    put_crc(&mut sector.bytes, 312);
+    put_crc(&mut sector.bytes, AGI_CRC_AT);
     sector
 }
 
@@ -96,10 +99,10 @@ fn page(group: u32) -> [u8; 4096] {
     put_u64(&mut bytes, 16, u64::from(group) * 512 + 16);
     bytes[32..48].copy_from_slice(&UUID);
     put_u32(&mut bytes, 48, group);
-    put_u32(&mut bytes, 56, 192);
-    put_u32(&mut bytes, 60, 61);
-    put_u64(&mut bytes, 64, 0xffff_ffff_ffff_fff8);
-    put_crc(&mut bytes, 52);
+    put_u32(&mut bytes, LEAF_RECORDS_AT, 192);
+    put_u32(&mut bytes, LEAF_RECORDS_AT + 4, 61);
+    put_u64(&mut bytes, LEAF_RECORDS_AT + 8, 0xffff_ffff_ffff_fff8);
+    put_crc(&mut bytes, LEAF_CRC_AT);
     bytes
 }
 
@@ -138,12 +141,12 @@ fn inode(group: u32, agino: u32, file: Option<File>) -> Sector {
             put_u32(bytes, 76, 1);
             put_u64(
                 bytes,
-                184,
+                FORK_AT + 8,
                 start % 4_294_967_296 * 2_097_152 + u64::from(file.blocks),
             );
         }
     }
-    put_crc(bytes, 100);
+    put_crc(bytes, CORE_CRC_AT);
     sector
 }
 
@@ -226,7 +229,7 @@ fn seal_page(image: &mut Vec<Sector>, from: usize) {
             bytes[512 * k..512 * k + 512].copy_from_slice(&image[at].bytes);
         }
     }
-    put_crc(&mut bytes, 52);
+    put_crc(&mut bytes, LEAF_CRC_AT);
     put_page(image, from, &bytes);
 }
 
@@ -239,10 +242,10 @@ fn reseal(image: &mut Vec<Sector>, sector: usize) {
         return;
     }
     match sector % GROUP {
-        0 => seal(image, sector, 40),
-        2 => seal(image, sector, 312),
+        0 => seal(image, sector, SUPERBLOCK_CRC_AT),
+        2 => seal(image, sector, AGI_CRC_AT),
         16..24 => seal_page(image, sector / GROUP * GROUP + 16),
-        192..256 => seal(image, sector, 100),
+        192..256 => seal(image, sector, CORE_CRC_AT),
         _ => {}
     }
 }

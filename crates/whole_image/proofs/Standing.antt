@@ -4,6 +4,7 @@ use Rattle.life_bytes.specs.declared.sector.Sector.{Sector}
 use Rattle.life_bytes.specs.Sectors.{zero_sector}
 use Rattle.life_bytes.specs.Fields.{field}
 use Rattle.life_bytes.specs.TableLaws.{sealed_number, AreFields}
+use Rattle.geometry.specs.declared.superblock.TheConstants.{SUPERBLOCK_CRC_AT}
 use Rattle.geometry.specs.declared.shape.Geometry.{Geometry}
 use Rattle.geometry.specs.Shape.{IsGeometry}
 use Rattle.geometry.specs.Superblock.{superblock_magic, superblock_encoding, superblock as superblock_rows}
@@ -102,7 +103,7 @@ superblock_is_rows g shape =
 
 magic_of : (g : Geometry) → IsGeometry g → field 4 0 (superblock_encoding g) ≡ superblock_magic
 unfolding superblock_encoding
-magic_of g shape = sealed_number 40 (superblock_rows g) 0 0 4 superblock_magic (superblock_is_rows g shape) (omega arith) refl refl (omega arith)
+magic_of g shape = sealed_number SUPERBLOCK_CRC_AT (superblock_rows g) 0 0 4 superblock_magic (superblock_is_rows g shape) (omega arith) refl refl (omega arith)
 
 first : (rule : ImageRule) → 1 ≤ image_rule_number rule
 first superblock = omega arith

@@ -4,6 +4,7 @@ use Rattle.life_bytes.specs.Fields.{with_field, with_piece}
 use Rattle.life_bytes.specs.Pieces.{placed, sealed, blank}
 use Rattle.life_bytes.specs.PieceLaws.{with_piece_as_part}
 use Rattle.life_bytes.specs.TableLaws.{bytes_of_zero_sector}
+use Rattle.geometry.specs.declared.superblock.TheConstants.{SUPERBLOCK_CRC_AT}
 use Rattle.geometry.specs.Superblock.{superblock, superblock_encoding, superblock_magic}
 use Rattle.geometry.proofs.superblock.write_super.Goals as goal
 
@@ -20,4 +21,4 @@ returns c =
     c.put_u32-5.ensures ∙ ap (with_field 4 16 g.ring) b4 in
     let plain : put_mid 24 16 c.put_u32-5.new.bytes c.copy_from_slice.new.self ≡ placed (superblock g) blank =
     ap (put_mid 24 16 c.put_u32-5.new.bytes) c.copy_from_slice.ensures.after ∙ with_piece_as_part 16 24 g.uuid c.put_u32-5.new.bytes ∙ ap (with_piece 16 24 g.uuid) b5 in
-    c.put_crc.ensures ∙ ap (sealed 40) plain
+    c.put_crc.ensures ∙ ap (sealed SUPERBLOCK_CRC_AT) plain

@@ -2,6 +2,7 @@ use Rattle.std.proofs.Common.{◌≡◌, ◌+◌, ◌*◌, ℕ, List, length, ar
 use Rattle.std.proofs.lemmas.Bool.{false≢true}
 use Rattle.std.proofs.lemmas.List.FromFn.{length-map-range_with_len}
 use Rattle.life_bytes.specs.Fields.{field}
+use Rattle.inobt_leaf.specs.declared.writing.TheConstants.{LEAF_RECORDS_AT}
 use Rattle.inobt_leaf.specs.declared.chunk.ChunkRec.{ChunkRec}
 use Rattle.inobt_leaf.specs.Chunks.{IsLeaf}
 use Rattle.inobt_leaf.specs.Pages.{leaf_encoding, chunk_at}
@@ -17,7 +18,7 @@ returns-then-count-gt-LEAF_CHUNKS-clause-only c chunks leaf encoded =
 
 pub is_page_of-requires : goal.is_page_of-requires
 is_page_of-requires c =
-    let f : ℕ → ChunkRec = λ i. chunk_at c.gather-bytes.result (56 + 16 * i) in
+    let f : ℕ → ChunkRec = λ i. chunk_at c.gather-bytes.result (LEAF_RECORDS_AT + 16 * i) in
     let many : length c.in_ok-chunks.chunks.items ≡ c.from-count.result = ap length c.in_ok-chunks.ensures ∙ length-map-range_with_len f 0 c.from-count.result in
     omega (arith, ap length c.deref.ensures.value, many, c.if-count-gt-LEAF_CHUNKS.false)
 

@@ -1,5 +1,6 @@
 use Rattle.std.proofs.Common.{ap, sym, ◌∙◌, length}
 use Rattle.life_bytes.specs.Pieces.{placed, sealed}
+use Rattle.inobt_leaf.specs.declared.writing.TheConstants.{LEAF_CRC_AT, LEAF_RECORDS_AT}
 use Rattle.inobt_leaf.specs.Pages.{page_header, chunk_records, leaf_encoding, blank_page}
 use Rattle.inobt_leaf.proofs.Tables.{placed-append}
 use Rattle.inobt_leaf.proofs.writing.encode.Goals as goal
@@ -9,7 +10,7 @@ unfolding leaf_encoding
 returns c =
     let a = c.args in
     c.put_crc.ensures
-    ∙ ap (sealed 52) (
+    ∙ ap (sealed LEAF_CRC_AT) (
     c.put_records.ensures
-    ∙ ap (placed (chunk_records 56 a.chunks.now)) (c.put_header.ensures ∙ ap (placed (page_header a.siblings (length a.chunks.now) a.group a.at a.uuid.now)) c.blank_page-bytes.ensures)
-    ∙ sym (placed-append (page_header a.siblings (length a.chunks.now) a.group a.at a.uuid.now) (chunk_records 56 a.chunks.now) blank_page))
+    ∙ ap (placed (chunk_records LEAF_RECORDS_AT a.chunks.now)) (c.put_header.ensures ∙ ap (placed (page_header a.siblings (length a.chunks.now) a.group a.at a.uuid.now)) c.blank_page-bytes.ensures)
+    ∙ sym (placed-append (page_header a.siblings (length a.chunks.now) a.group a.at a.uuid.now) (chunk_records LEAF_RECORDS_AT a.chunks.now) blank_page))
