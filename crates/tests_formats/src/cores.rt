@@ -1,4 +1,4 @@
-use inode_core::{Core, read_core, write_core};
+use inode_core::{CORE_CRC_AT, Core, FORK_AT, read_core, write_core};
 use life_bytes::Sector;
 
 const UUID: [u8; 16] = [0, 1, 2, 3, 4, 5, 6, 7, 8, 9, 10, 11, 12, 13, 14, 15];
@@ -42,8 +42,11 @@ fn first_file_is_read(rt: HostRuntime) {
 fn fork_stays_as_it_is(rt: HostRuntime) {
     let mut sector = Sector { bytes: [0xee; 512] };
     write_core(&FIRST, 192, &UUID, &mut sector);
-    assert_eq!(rt; &sector.bytes[..100], &first_file().bytes[..100]);
-    assert_eq!(rt; &sector.bytes[176..], [0xee; 336].as_slice());
+    assert_eq!(rt;
+        &sector.bytes[..CORE_CRC_AT],
+        &first_file().bytes[..CORE_CRC_AT]
+    );
+    assert_eq!(rt; &sector.bytes[FORK_AT..], [0xee; 336].as_slice());
     assert_eq!(rt; read_core(&sector, 192, &UUID), Some(FIRST));
 }
 

@@ -1,4 +1,5 @@
-use extent_fork::{Extent, ForkFault, RunsFault, fill_runs, read_fork, runs_of, write_fork};
+use extent_fork::{Extent, ForkFault, fill_runs, read_fork, runs_of, write_fork};
+use inode_core::FORK_AT;
 use life_bytes::Sector;
 use std::test::Fail;
 
@@ -30,26 +31,15 @@ fn blocks_become_runs(rt: HostRuntime) -> Result<(), Fail> {
 }
 
 #[test]
-fn twenty_two_runs_are_too_many(rt: HostRuntime) -> Result<(), Fail> {
-    let blocks = [
-        24, 26, 28, 30, 32, 34, 36, 38, 40, 42, 44, 46, 48, 50, 52, 54, 56, 58, 60, 62, 64, 66,
-    ];
-    let many = runs_of(rt.alloc(), &blocks);
-    assert!(rt; matches!(many, Err(RunsFault::TooManyExtents)));
-    assert_eq!(rt; runs_of(rt.alloc(), &blocks[1..])?.len(), 21);
-    Ok(())
-}
-
-#[test]
 fn written_fork_is_read(rt: HostRuntime) -> Result<(), Fail> {
     let mut sector = Sector { bytes: [0xee; 512] };
     write_fork(&[RUN], 0, &mut sector);
-    assert_eq!(rt; &sector.bytes[..176], [0xee; 176].as_slice());
+    assert_eq!(rt; &sector.bytes[..FORK_AT], [0xee; FORK_AT].as_slice());
     assert_eq!(rt;
-        &sector.bytes[176..192],
+        &sector.bytes[FORK_AT..FORK_AT + 16],
         b"\0\0\0\0\0\0\0\0\0\0\0\0\x04\0\0\x03".as_slice()
     );
-    assert_eq!(rt; &sector.bytes[192..], [0; 320].as_slice());
+    assert_eq!(rt; &sector.bytes[FORK_AT + 16..], [0; 320].as_slice());
     assert_eq!(rt;
         read_fork(rt.alloc(), &sector, 1, 0)?.as_slice(),
         [RUN].as_slice()
@@ -62,11 +52,11 @@ fn written_fork_is_read(rt: HostRuntime) -> Result<(), Fail> {
         );
     }
     for (at, bits) in [
-        (176, 0x80),
-        (180, 1),
-        (186, 1),
-        (189, 0x10),
-        (192, 1),
+        (FORK_AT, 0x80),
+        (FORK_AT + 4, 1),
+        (FORK_AT + 10, 1),
+        (FORK_AT + 13, 0x10),
+        (FORK_AT + 16, 1),
         (511, 1),
     ] {
         let mut other = sector;

@@ -1,4 +1,4 @@
-use ag_header::{Agi, read_agi, set_counts, set_head, set_root, write_agi};
+use ag_header::{AGI_CRC_AT, Agi, read_agi, set_counts, set_head, set_root, write_agi};
 use life_bytes::Sector;
 
 const EMPTY: u32 = 0xffff_ffff;
@@ -29,8 +29,11 @@ fn header_is_written_and_read(rt: HostRuntime) {
     );
     assert_eq!(rt; &sector.bytes[32..296], [0xff; 264].as_slice());
     assert_eq!(rt; &sector.bytes[296..312], FIRST.uuid.as_slice());
-    assert_eq!(rt; &sector.bytes[312..316], b"\x69\xf4\x24\x78".as_slice());
-    assert_eq!(rt; &sector.bytes[316..], [0; 196].as_slice());
+    assert_eq!(rt;
+        &sector.bytes[AGI_CRC_AT..AGI_CRC_AT + 4],
+        b"\x69\xf4\x24\x78".as_slice()
+    );
+    assert_eq!(rt; &sector.bytes[AGI_CRC_AT + 4..], [0; 196].as_slice());
     assert_eq!(rt; read_agi(&sector), Some(FIRST));
     for at in [3, 7, 23, 27, 35, 100, 300, 315, 320, 511] {
         let mut other = sector;

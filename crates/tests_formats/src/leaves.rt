@@ -1,6 +1,6 @@
 use inobt_leaf::{
-    ChunkRec, Leaf, LeafFault, PageFault, masks_change_by_one_bit, pages_tell_leaves, read_page,
-    write_empty_page, write_page,
+    ChunkRec, LEAF_CRC_AT, LEAF_RECORDS_AT, Leaf, LeafFault, PageFault, masks_change_by_one_bit,
+    pages_tell_leaves, read_page, write_empty_page, write_page,
 };
 use life_bytes::Sector;
 use std::test::Fail;
@@ -77,11 +77,11 @@ fn one_bit_spoils_a_page(rt: HostRuntime) -> Result<(), Fail> {
         (0, 31),
         (0, 47),
         (0, 51),
-        (0, 52),
-        (0, 59),
-        (0, 63),
-        (0, 71),
-        (0, 72),
+        (0, LEAF_CRC_AT),
+        (0, LEAF_RECORDS_AT + 3),
+        (0, LEAF_RECORDS_AT + 7),
+        (0, LEAF_RECORDS_AT + 15),
+        (0, LEAF_RECORDS_AT + 16),
         (7, 511),
     ] {
         assert!(rt; sector < 8 && byte < 512);

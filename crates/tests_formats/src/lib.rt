@@ -16,6 +16,8 @@ mod headers;
 #[cfg(test)]
 mod leaves;
 #[cfg(test)]
+mod limits;
+#[cfg(test)]
 mod records;
 #[cfg(test)]
 mod superblocks;

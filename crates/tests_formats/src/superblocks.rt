@@ -1,5 +1,6 @@
 use geometry::{
-    Damaged, Geometry, image_sectors, number, read_super, sector_of, split, word_at, write_super,
+    Damaged, Geometry, SUPERBLOCK_CRC_AT, image_sectors, number, read_super, sector_of, split,
+    word_at, write_super,
 };
 use life_bytes::Sector;
 
@@ -35,8 +36,11 @@ fn superblock_is_read_and_nothing_else(rt: HostRuntime) {
         b"LIFE\0\0\0\x01\0\0\0\x01\0\0\0\x40\0\0\x01\0\0\0\0\0".as_slice()
     );
     assert_eq!(rt; &sector.bytes[24..40], g.uuid.as_slice());
-    assert_eq!(rt; &sector.bytes[40..44], b"\x37\xd9\x89\xbc".as_slice());
-    assert_eq!(rt; &sector.bytes[44..], [0; 468].as_slice());
+    assert_eq!(rt;
+        &sector.bytes[SUPERBLOCK_CRC_AT..SUPERBLOCK_CRC_AT + 4],
+        b"\x37\xd9\x89\xbc".as_slice()
+    );
+    assert_eq!(rt; &sector.bytes[SUPERBLOCK_CRC_AT + 4..], [0; 468].as_slice());
     assert_eq!(rt; read_super(&sector), Ok(g));
     let damaged = Err(Damaged { rule: 1, sector: 0 });
     for at in [0, 7, 19, 20, 30, 42, 511] {
