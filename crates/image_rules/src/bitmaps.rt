@@ -12,7 +12,7 @@ ghost use Rattle.sound_image.specs.Rules.{free_set};
 ghost use Rattle.image_rules.specs.Faults.{IsCaused};
 ghost use Rattle.image_rules.specs.Gathered.{BitmapFault};
 
-use crate::fault::{BITMAP_RULE, CheckFault};
+use crate::fault::{CheckFault, GroupRule};
 use crate::groups::sector_at;
 use crate::inodes::has_its_bytes;
 use crate::reading::read_sectors;
@@ -75,7 +75,7 @@ pub(crate) fn check_bitmap<V: View>(
     match first_other(&sectors, &encoded) {
         None => Ok(()),
         Some(index) => Err(CheckFault::Damaged {
-            rule: BITMAP_RULE,
+            rule: GroupRule::Bitmap as u32,
             sector: at + index,
         }),
     }

@@ -5,22 +5,25 @@ ghost use Rattle.std.specs.Prelude.{◌≡◌};
 use life_ports::Failed;
 use std::alloc::{AllocError, AllocFailed};
 
-/// The numbers of the rules, from that of the headers on.
-pub(crate) const HEADER_RULE: u32 = 5;
-
-pub(crate) const TREE_RULE: u32 = 6;
-
-pub(crate) const CORE_RULE: u32 = 7;
-
-pub(crate) const FORK_RULE: u32 = 8;
-
-pub(crate) const BLOCKS_RULE: u32 = 9;
-
-pub(crate) const BITMAP_RULE: u32 = 10;
-
-pub(crate) const POINTERS_RULE: u32 = 11;
-
-pub(crate) const LISTS_RULE: u32 = 12;
+/// The rules that groups are checked by, under their numbers. Rules 1 to 4 are those of the superblock, the image's size, the anchor and the log.
+pub(crate) enum GroupRule {
+    /// The header of a group.
+    Header = 5,
+    /// The inode btree, and what the header counts of it.
+    Tree = 6,
+    /// The core of each inode.
+    Core = 7,
+    /// The fork of each inode in use.
+    Fork = 8,
+    /// That no block is in two places.
+    Blocks = 9,
+    /// The bitmap of free blocks.
+    Bitmap = 10,
+    /// The pointers of the unlinked lists.
+    Pointers = 11,
+    /// Which inodes are on the unlinked lists.
+    Lists = 12,
+}
 
 /// Why there is no answer that all is sound.
 #[derive(Clone, Copy, Debug, PartialEq, Eq)]

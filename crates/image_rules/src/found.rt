@@ -20,7 +20,7 @@ ghost use Rattle.image_rules.specs.declared.fault.CheckFault.TheVariants.{NoMemo
 ghost use Rattle.image_rules.specs.Shown.{Shows};
 ghost use Rattle.image_rules.specs.Taking.{Adds};
 
-use crate::fault::{CORE_RULE, CheckFault};
+use crate::fault::{CheckFault, GroupRule};
 use crate::groups::sector_at;
 use crate::inodes::{right_blocks, right_core};
 use crate::links::Links;
@@ -135,7 +135,7 @@ impl Found {
     {
         let Some(core) = right_core(g, group, agino, !free, sector) else {
             return Err(CheckFault::Damaged {
-                rule: CORE_RULE,
+                rule: GroupRule::Core as u32,
                 sector: sector_at(g, group, agino),
             });
         };

@@ -14,7 +14,7 @@ ghost use Rattle.image_rules.specs.Faults.{FaultIn, IsCaused};
 ghost use Rattle.image_rules.specs.Gathered.{AllGathered, CoreFault};
 ghost use Rattle.image_rules.specs.Listing.{AllNoted};
 
-use crate::fault::{CheckFault, HEADER_RULE, TREE_RULE};
+use crate::fault::{CheckFault, GroupRule};
 use crate::found::Found;
 use crate::headers::right_header;
 use crate::pages::{has_counts, right_leaf};
@@ -63,7 +63,7 @@ pub(crate) fn check_header<V: View>(
     match right_header(g, group, &sector) {
         Some(agi) => Ok(agi),
         None => Err(CheckFault::Damaged {
-            rule: HEADER_RULE,
+            rule: GroupRule::Header as u32,
             sector: at,
         }),
     }
@@ -96,14 +96,14 @@ pub(crate) fn check_leaf<V: View>(
         Err(PageFault::NoMemory) => return Err(CheckFault::NoMemory),
         Err(PageFault::Malformed) => {
             return Err(CheckFault::Damaged {
-                rule: TREE_RULE,
+                rule: GroupRule::Tree as u32,
                 sector: at,
             });
         }
     };
     if !has_counts(agi, &leaf) {
         return Err(CheckFault::Damaged {
-            rule: TREE_RULE,
+            rule: GroupRule::Tree as u32,
             sector: sector_at(g, group, HEADER),
         });
     }

@@ -12,7 +12,7 @@ ghost use Rattle.image_rules.specs.Faults.{AllHold, FaultIn, IsCaused, SpaceHold
 ghost use Rattle.image_rules.specs.declared.fault.CheckFault.TheVariants.{Damaged};
 ghost use Rattle.image_rules.specs.Listing.{AllNoted, AreUnmet, IsLesser, IsWalked, IsWrongAt, Takes, WalkedBelow, next_pointer_of};
 
-use crate::fault::{CheckFault, LISTS_RULE, POINTERS_RULE};
+use crate::fault::{CheckFault, GroupRule};
 use crate::groups::{HEADER, sector_at};
 use crate::links::Links;
 use ag_header::Agi;
@@ -115,11 +115,11 @@ pub(crate) fn check_lists(
     ensures no_read { (before now : ℕ) → IfErr result (IsCaused before now) }
 {
     if let Some(place) = walk_all(&mut links.orphans, &agi.heads) {
-        return Err(damage(g, group, POINTERS_RULE, place));
+        return Err(damage(g, group, GroupRule::Pointers as u32, place));
     }
     let unmet = first(&links.orphans);
     match least(unmet, links.pointing) {
-        Some(place) => Err(damage(g, group, LISTS_RULE, place)),
+        Some(place) => Err(damage(g, group, GroupRule::Lists as u32, place)),
         None => Ok(()),
     }
 }

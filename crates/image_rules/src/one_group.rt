@@ -10,7 +10,7 @@ ghost use Rattle.image_rules.specs.Faults.{AllHold, FaultIn, IsCaused, SpaceHold
 ghost use Rattle.image_rules.specs.Listing.{AllNoted};
 
 use crate::bitmaps::check_bitmap;
-use crate::fault::{BLOCKS_RULE, CheckFault, FORK_RULE};
+use crate::fault::{CheckFault, GroupRule};
 use crate::groups::{check_header, check_inodes, check_leaf};
 use crate::links::Links;
 use crate::lists::check_lists;
@@ -52,13 +52,13 @@ fn check_space<V: View>(
     let found = check_inodes(alloc, view, g, group, &leaf)?;
     if let Some(sector) = found.fork {
         return Err(CheckFault::Damaged {
-            rule: FORK_RULE,
+            rule: GroupRule::Fork as u32,
             sector,
         });
     }
     if let Some(sector) = found.shared {
         return Err(CheckFault::Damaged {
-            rule: BLOCKS_RULE,
+            rule: GroupRule::Blocks as u32,
             sector,
         });
     }
