@@ -1,0 +1,4 @@
+pub mod Agree
+pub mod Calls
+pub mod Alone
+pub mod Holds
