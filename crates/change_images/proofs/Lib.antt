@@ -1,0 +1,9 @@
+pub mod Lists
+pub mod Gathered
+pub mod Staged
+pub mod Blocks
+pub mod Lower
+pub mod Covered
+pub mod Touching
+pub mod Events
+pub mod Creates
