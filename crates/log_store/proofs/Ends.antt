@@ -207,7 +207,7 @@ stage_lowers (Down fault) job s sectors count is fits least few may more = absur
 
 -- ---- a step
 
-fits_gathered : (stage : Stage) (job : Job) (list : List Commit) (s n : State) (sectors : List Sector) (count : ℕ) → IsGathered (gathers stage job list) s n
+pub fits_gathered : (stage : Stage) (job : Job) (list : List Commit) (s n : State) (sectors : List Sector) (count : ℕ) → IsGathered (gathers stage job list) s n
     → StageFits stage s sectors count → StageFits stage (with_batch s n) sectors count
 fits_gathered Free job list s n sectors count keeps fits = tt
 fits_gathered Half job list s n sectors count keeps fits = subst (λ (x : State). StageFits Half x sectors count) (sym (with_batch_same s n keeps)) fits

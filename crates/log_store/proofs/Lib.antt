@@ -9,3 +9,6 @@ pub mod Jobs
 pub mod Done
 pub mod Whole
 pub mod Ends
+pub mod Comes
+pub mod Outcomes
+pub mod Stepping

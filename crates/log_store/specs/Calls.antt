@@ -5,8 +5,6 @@ use Rattle.disk_model.specs.Disk.{Arming, Cell, IsPartlyWritten, after_write, fl
 use Rattle.log_record.specs.Encoding.{sector_count}
 use Rattle.log_store.specs.declared.fault.Progress.{Progress}
 use Rattle.log_store.specs.declared.fault.StoreFault.{StoreFault}
-use Rattle.log_store.specs.declared.store.Job.{Job}
-use Rattle.log_store.specs.declared.store.Job.TheVariants.{Clear, Force, Home, Idle, Nothing, WriteBack}
 use Rattle.log_store.specs.State.{State}
 
 -- a call of the disk: none, a write of sectors from a sector on, or a flush
@@ -32,15 +30,6 @@ has_room s images = nat_le ((s.head - s.tail) + sector_count images + 1) s.ring
 -- the state before a step with the record that was gathered in it
 abbrev pub with_batch : State → State → State
 with_batch old new = record old { batch = new.batch; taken = new.taken }
-
--- the state before a step of a job, a force with the record that was gathered in it
-abbrev pub after_gather : Job → State → State → State
-after_gather Force old new = with_batch old new
-after_gather Clear old new = old
-after_gather Home old new = old
-after_gather WriteBack old new = old
-after_gather Nothing old new = old
-after_gather Idle old new = old
 
 -- A disk before and after the call and no other: what it holds, where that is known, and what is armed.
 abbrev pub Made : {D : Type 0} → Bool → (D → List Cell) → (D → Arming) → DeviceCall → Result Progress StoreFault → D → D → Type 0

@@ -7,9 +7,9 @@ use Rattle.log_record.specs.declared.image.Image.{Image}
 use Rattle.log_record.specs.declared.image.Commit.{Commit}
 use Rattle.log_record.specs.declared.record.LogRecord.{LogRecord}
 use Rattle.log_record.specs.Encoding.{encoded_record}
-use Rattle.log_image.specs.Log.{AreBelow, IsLog, Log, groups_part, replayed, ring_part}
+use Rattle.log_image.specs.Log.{AreBelow, IsLog, Log, empty_log, groups_part, replayed, ring_part}
 use Rattle.log_image.specs.Overlay.{images_of, newest, overlaid}
-use Rattle.log_image.specs.Step.{AreHome, ExtendsLog, sector_of_position}
+use Rattle.log_image.specs.Step.{AreHome, ExtendsLog, covered, sector_of_position}
 use Rattle.log_image.specs.Writes.{first_part, rest_part}
 use Rattle.log_batch.specs.Newest.{IsNewestOf, commit_images}
 use Rattle.log_store.specs.declared.store.Stage.{Stage}
@@ -45,6 +45,10 @@ pub record HasLogTo (anchor ring : ℕ) (log : Log) (base image : List Sector) :
   pub says : IsLog image anchor ring log
   pub below : AreBelow (ring_part anchor ring image) log.end
   pub groups : replayed anchor image log.records ≡ base
+
+-- The log of an image is one cover at a position: a record without commits and images that is its own tail.
+abbrev pub HasCover : ℕ → ℕ → ℕ → ℕ → List Sector → Type 0
+HasCover anchor ring position next image = IsLog image anchor ring (covered (empty_log position next))
 
 -- Nothing is in flight: a log goes on at the head with the next commit number, and each image has it. What is dirty is
 -- the newest logged image of its sector; any other logged sector reads as its newest image, and where none is dirty and

@@ -1,10 +1,8 @@
--- What a step of a job answers, and when.
-use Rattle.std.specs.Prelude.{ℕ, ◌≡◌, ◌≢◌, ◌⊎◌, ◌≤◌, ◌<◌, ◌+◌, ◌-◌, ◌*◌, ◌^◌, nat_lt, if◌then◌else◌, false, [], length, Result, Ok, Err, Option, Some, None}
+-- What jobs come to: what they reach, how long they may take, where the positions end, and their faults.
+use Rattle.std.specs.Prelude.{ℕ, ◌≡◌, ◌≢◌, ◌⊎◌, ◌≤◌, ◌<◌, ◌+◌, ◌-◌, ◌*◌, ◌^◌, nat_lt, if◌then◌else◌, false, [], length, Option, Some, None}
 use Rattle.life_limits.specs.declared.TheConstants.{MAX_RECORD_SECTORS}
 use Rattle.life_ports.specs.Faults.{Rose}
 use Rattle.log_record.specs.Encoding.{sector_count}
-use Rattle.log_store.specs.declared.fault.Progress.{Progress}
-use Rattle.log_store.specs.declared.fault.Progress.TheVariants.{More, Ended}
 use Rattle.log_store.specs.declared.fault.StoreFault.{StoreFault}
 use Rattle.log_store.specs.declared.fault.StoreFault.TheVariants.{WriteFault, FlushFault, PositionEnd}
 use Rattle.log_store.specs.declared.fault.StoreFault.TheVariants as faults
@@ -12,9 +10,7 @@ use Rattle.log_store.specs.declared.store.Job.{Job}
 use Rattle.log_store.specs.declared.store.Job.TheVariants.{Clear, Force, Home, Idle, Nothing, WriteBack}
 use Rattle.log_store.specs.declared.store.Stage.{Stage}
 use Rattle.log_store.specs.declared.store.Stage.TheVariants.{Free, Half, Record, Cover, Down}
-use Rattle.log_store.specs.Calls.{after_gather}
 use Rattle.log_store.specs.State.{State}
-use Rattle.log_store.specs.Steps.{Covering}
 
 -- what a job is for: room is made for a force alone
 abbrev pub goal_of : Job → Job
@@ -54,19 +50,9 @@ steps_at (Down fault) job s = 0
 abbrev pub steps_left : State → Job → ℕ
 steps_left s job = 600 * length s.list + 2 * length s.dirty + steps_at s.stage job s
 
--- A step after which the job goes on leaves fewer.
-abbrev pub Shrinks : Result Progress StoreFault → State → State → Job → Job → Type 0
-Shrinks (Ok More) old new was job = steps_left new job < steps_left old was
-Shrinks (Ok Ended) old new was job = Unit {0}
-Shrinks (Err fault) old new was job = Unit {0}
-
 -- A write of the log failed, and the store is down, with the disk's count then. No job that only writes back comes to it.
 abbrev pub LogFails : State → Job → ℕ → Type 0
 LogFails new was now = (new.stage ≡ Down now) × (was ≢ WriteBack)
-
--- A home write failed: its sector is still dirty, and the store goes on.
-abbrev pub HomeFails : State → State → Type 0
-HomeFails old new = (old.dirty ≢ []) × (new.dirty ≡ old.dirty) × (old.stage ≡ Free) × (new.stage ≡ Free)
 
 -- a cover comes next, and would end past the last position
 abbrev pub CoverEndsPast : State → Type 0
@@ -91,44 +77,17 @@ EndsPastAt Record job s images = ⊥
 EndsPastAt Cover job s images = ⊥
 EndsPastAt (Down fault) job s images = ⊥
 
--- that the positions are used up is answered exactly there
-abbrev pub EndsExactly : Result Progress StoreFault → State → State → Job → Type 0
-EndsExactly (Ok progress) old new was = EndsPastAt old.stage was old (length new.batch) → ⊥
-EndsExactly (Err PositionEnd) old new was = EndsPastAt old.stage was old (length new.batch)
-EndsExactly (Err WriteFault) old new was = EndsPastAt old.stage was old (length new.batch) → ⊥
-EndsExactly (Err FlushFault) old new was = EndsPastAt old.stage was old (length new.batch) → ⊥
-EndsExactly (Err (faults.Down fault)) old new was = EndsPastAt old.stage was old (length new.batch) → ⊥
-
 -- the head, the tail and the durable number stay
 pub record PositionsStay (old new : State) : Type 0 where
   pub head : new.head ≡ old.head
   pub tail : new.tail ≡ old.tail
   pub durable : new.durable ≡ old.durable
 
--- a record is flushed: the head is behind it, and its commits are durable
-pub record Lands (old new : State) : Type 0 where
-  pub head : new.head ≡ old.head + sector_count (length old.batch)
-  pub tail : new.tail ≡ old.tail
-  pub durable : new.durable ≡ old.durable + old.taken
-
 -- a cover is flushed: it is the tail, and the head is behind it
 pub record Covered (old new : State) : Type 0 where
   pub head : new.head ≡ old.head + 1
   pub tail : new.tail ≡ old.head
   pub durable : new.durable ≡ old.durable
-
--- Where a step leaves the head, the tail and the durable number. The flush of a record and that of a cover alone move
--- them. A cover that was written to make room does not end the job, any other cover does, and the jobs that write one end
--- at nothing else.
-abbrev pub StepMoves : Result Progress StoreFault → Stage → State → State → Job → Type 0
-StepMoves (Ok More) Free old new was = PositionsStay old new
-StepMoves (Ok Ended) Free old new was = PositionsStay old new × (Covering was → ⊥)
-StepMoves (Ok progress) Half old new was = PositionsStay old new
-StepMoves (Ok progress) Record old new was = Lands old new
-StepMoves (Ok More) Cover old new was = Covered old new × (was ≡ Clear)
-StepMoves (Ok Ended) Cover old new was = Covered old new × (was ≡ Home)
-StepMoves (Ok progress) (Down fault) old new was = ⊥
-StepMoves (Err fault) stage old new was = PositionsStay old new
 
 -- 1 where the log is no longer than a cover: the next record pays for the cover
 abbrev pub owed : State → ℕ
@@ -150,19 +109,9 @@ Rises covers left old new =
     new.head + owed old + (MAX_RECORD_SECTORS + 1) * old.durable + left
     ≤ old.head + owed new + (MAX_RECORD_SECTORS + 1) * new.durable + covers
 
--- What a step answers, with the state and the job before and after it, and the disk's counts of faults. After a failed
--- write of the log or a failed flush the store is down, with the count then, and answers that and nothing else.
-abbrev pub IsStepOutcome : Result Progress StoreFault → State → State → Job → Job → ℕ → ℕ → Type 0
-IsStepOutcome (Ok More) old new was job before now = (goal_of job ≡ goal_of was) × (before ≤ now)
-IsStepOutcome (Ok Ended) old new was job before now = (job ≡ Idle) × IsDone was new × (before ≤ now)
-IsStepOutcome (Err WriteFault) old new was job before now =
-    (job ≡ Idle) × Rose before now × (LogFails new was now ⊎ HomeFails old new)
-IsStepOutcome (Err FlushFault) old new was job before now = (job ≡ Idle) × Rose before now × (new.stage ≡ Down now)
-IsStepOutcome (Err PositionEnd) old new was job before now = (job ≡ Idle) × (new ≡ after_gather was old new) × (now ≡ before)
-IsStepOutcome (Err (faults.Down fault)) old new was job before now = (job ≡ Idle) × (old.stage ≡ Down fault) × (new ≡ old) × (now ≡ before)
-
--- What a whole job answers in place of its end, with the state after it and the disk's counts before and after it. After
--- a failed home write a sector is still dirty, and the store goes on. The job comes to the positions' end where the next record, a cover included, would end past the last one.
+-- What a job answers in place of its end, with the state after it and the disk's counts before and after it. After a
+-- failed home write a sector is still dirty, and the store goes on. The job comes to the positions' end where the next
+-- record, a cover included, would end past the last one.
 abbrev pub IsFault : StoreFault → Job → State → ℕ → ℕ → Type 0
 IsFault WriteFault job new before now = Rose before now × (LogFails new job now ⊎ ((new.stage ≡ Free) × (new.dirty ≢ [])))
 IsFault FlushFault job new before now = Rose before now × (new.stage ≡ Down now)

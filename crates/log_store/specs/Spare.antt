@@ -1,7 +1,6 @@
 -- How much more a store has room for, so that no memory is taken later.
-use Rattle.std.specs.Prelude.{ℕ, ◌-◌, length}
+use Rattle.std.specs.Prelude.{ℕ, ◌-◌}
 use Rattle.std.specs.VecDeque.{deque_capacity, deque_len}
-use Rattle.log_batch.specs.Newest.{commit_images}
 use Rattle.log_store.specs.declared.store.Store.{Store}
 
 -- commits
@@ -10,4 +9,4 @@ spare_commits store = deque_capacity store.queue - deque_len store.queue
 
 -- images of commits, beside those that wait
 abbrev pub spare_images : {D : Type 0} → Store D → ℕ
-spare_images store = store.dirty.room - length (commit_images store.queue.items)
+spare_images store = store.spare

@@ -82,9 +82,15 @@ Covering Force = ⊥
 Covering Nothing = ⊥
 Covering Idle = ⊥
 
+-- The images of the commits that wait are counted, and there is room for them, and for so many more beside them.
+pub record HasRoom (list : List Commit) (room waiting spare : ℕ) : Type 0 where
+  pub counted : waiting ≡ length (commit_images list)
+  pub within : waiting + spare ≤ room
+  pub countable : waiting + spare < 2 ^ 64
+
 -- What a store's fields always meet, on a disk of so many sectors: the log lies on the disk; commits are ones that a
 -- record can take, of sectors of the groups, with numbers of 64 bits; dirty images are by ascending home; and there is
--- room for those of all commits.
+-- room for the images of all commits.
 pub record IsConsistent {D : Type 0} (sector_count : ℕ) (store : Store D) : Type 0 where
   pub place : store.anchor + 1 + store.ring ≤ sector_count
   pub last : store.anchor + 1 + store.ring < 2 ^ 64
@@ -94,7 +100,7 @@ pub record IsConsistent {D : Type 0} (sector_count : ℕ) (store : Store D) : Ty
   pub numbers : store.durable + length store.queue.items < 2 ^ 64 - 1
   pub rises : KeysRise (λ i. i.home) 0 store.dirty.images
   pub homes : All (IsGroupImage store.anchor) store.dirty.images
-  pub room : length (commit_images store.queue.items) ≤ store.dirty.room
+  pub room : HasRoom store.queue.items store.dirty.room store.waiting store.spare
   pub buffer : length store.sectors.items ≡ MAX_RECORD_SECTORS
   pub stage : StageFits store.stage (state_of store) store.sectors.items store.count
   pub job : JobFits store.stage store.job

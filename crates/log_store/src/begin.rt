@@ -64,6 +64,8 @@ pub fn begin_store<D: Disk>(
         durable: next_commit - 1,
         queue: VecDeque::new(alloc),
         dirty: DirtySectors::new(alloc),
+        waiting: 0,
+        spare: 0,
         unflushed: false,
         batch,
         taken: 0,

@@ -2,7 +2,7 @@
 ghost use Rattle.std.specs.Prelude.{ℕ, ◌≡◌, ◌<◌, ◌+◌, ◌^◌, ◌↔◌, List, [], false, IsTrue, IfErr, IfOk, None, OnErr, OnOk, ◌≤◌};
 ghost use Rattle.life_bytes.specs.declared.sector.Sector.{Sector};
 ghost use Rattle.disk_model.specs.Disk.{IsAfterWrites, IsImage};
-ghost use Rattle.log_store.specs.OnDisk.{ReplaysTo};
+ghost use Rattle.log_store.specs.OnDisk.{HasCover, ReplaysTo};
 ghost use Rattle.log_store.specs.declared.store.Job.TheVariants.{Force, Home, Idle, WriteBack};
 ghost use Rattle.log_store.specs.declared.store.Stage.TheVariants.{Down, Free};
 ghost use Rattle.log_store.specs.Actions.{HasNothing, IsWholeJob, last_answer};
@@ -11,7 +11,7 @@ ghost use Rattle.log_store.specs.State.{state_of};
 ghost use Rattle.log_store.specs.Steps.{Goes, IsStore, JobAsks};
 
 use crate::fault::{Progress, StoreFault};
-use crate::laws::states;
+use crate::laws::{cover_flights, states};
 use crate::store::{Job, Store};
 use disk_model::Disk;
 
@@ -31,14 +31,17 @@ impl<D: Disk> Store<D> {
         ensures rises { Rises (covers_of self.old.job) 0 (state_of self.old) (state_of self.new) }
         ensures stays { self.old.job ≡ WriteBack → PositionsStay (state_of self.old) (state_of self.new) }
         ensures covered { self.old.job ≡ Home → OnOk result (Covered (state_of self.old) (state_of self.new)) }
+        ensures last { self.old.job ≡ Home → IsTrue D.known → OnOk result ((image : List Sector) → IsImage (D.cells self.new.disk) image
+            → HasCover self.old.anchor self.old.ring self.old.positions.head (self.old.durable + 1) image) }
         ensures failed { self.old.job ≡ Home → OnErr result (PositionsStay (state_of self.old) (state_of self.new)) }
         ensures at_end { self.old.job ≡ Home → self.old.stage ≡ Free → CoverEndsPast (state_of self.old) → result ≡ Err StoreFault.PositionEnd }
         ensures arming { IsAfterWrites (D.arming self.old.disk) (D.arming self.new.disk) }
         ensures fault { IfErr result (λ fault. IsFault fault self.old.job (state_of self.new) (D.fault_count self.old.disk) (D.fault_count self.new.disk)) }
-        ensures down { (fault : ℕ) → self.old.stage ≡ Down fault → (result ≡ Err (StoreFault.Down fault)) × (self.new ≡ record self.old { job = Idle }) }
+        ensures down { (fault : ℕ) → self.old.stage ≡ Down fault → (result ≡ Err (StoreFault.Down fault)) × (self.new.disk ≡ self.old.disk) }
     {
+        cover_flights();
         loop {
-            match self.make_step()? {
+            match self.advance()? {
                 Progress::More => {}
                 Progress::Ended => return Ok(()),
             }
@@ -122,6 +125,9 @@ impl<D: Disk> Store<D> {
         ensures only_down { (fault : ℕ) → result ≡ Err (StoreFault.Down fault) → self.old.stage ≡ Down fault }
         ensures idle { self.new.job ≡ Idle }
         ensures covered { OnOk result (Covered (state_of self.old) (state_of self.new)) }
+        // The last record of whatever a crash leaves is the cover, which stands alone.
+        ensures last { IsTrue D.known → OnOk result ((image : List Sector) → IsImage (D.cells self.new.disk) image
+            → HasCover self.old.anchor self.old.ring self.old.positions.head (self.old.durable + 1) image) }
         ensures failed { OnErr result (PositionsStay (state_of self.old) (state_of self.new)) }
         ensures end { (result ≡ Err StoreFault.PositionEnd) ↔ (self.old.stage ≡ Free) × (2 ^ 63 < self.old.positions.head + 1) }
         ensures arming { IsAfterWrites (D.arming self.old.disk) (D.arming self.new.disk) }

@@ -2,7 +2,6 @@
 ghost use Rattle.std.specs.Prelude.{◌≡◌, ◌≢◌, [], IsTrue};
 ghost use Rattle.log_store.specs.declared.store.Stage.TheVariants.{Free};
 ghost use Rattle.log_store.specs.Actions.{Action, IsDoneBy, home_action};
-ghost use Rattle.log_store.specs.Outcome.{EndsExactly, IsStepOutcome, Rises, Shrinks, StepMoves, covers_of};
 ghost use Rattle.log_store.specs.State.{state_of};
 ghost use Rattle.log_store.specs.Steps.{Goes, IsStore, MovesHome};
 
@@ -22,11 +21,6 @@ impl<D: Disk> Store<D> {
         ensures done { (last : Action) → IsDoneBy D.known D.cells D.sector_count D.arming D.fault_count
             (home_action self.old.dirty.images self.old.unflushed last) result self.old.job (state_of self.old) self.old.disk self.new }
         ensures batch { self.new.batch ≡ self.old.batch }
-        ensures outcome { IsStepOutcome result (state_of self.old) (state_of self.new) self.old.job self.new.job (D.fault_count self.old.disk) (D.fault_count self.new.disk) }
-        ensures smaller { Shrinks result (state_of self.old) (state_of self.new) self.old.job self.new.job }
-        ensures end { EndsExactly result (state_of self.old) (state_of self.new) self.old.job }
-        ensures moves { StepMoves result self.old.stage (state_of self.old) (state_of self.new) self.old.job }
-        ensures rises { Rises (covers_of self.old.job) (covers_of self.new.job) (state_of self.old) (state_of self.new) }
     {
         homes();
         let Some(image) = self.dirty.first() else {
@@ -56,11 +50,6 @@ impl<D: Disk> Store<D> {
         ensures done { (last : Action) → IsDoneBy D.known D.cells D.sector_count D.arming D.fault_count
             (home_action self.old.dirty.images self.old.unflushed last) result self.old.job (state_of self.old) self.old.disk self.new }
         ensures batch { self.new.batch ≡ self.old.batch }
-        ensures outcome { IsStepOutcome result (state_of self.old) (state_of self.new) self.old.job self.new.job (D.fault_count self.old.disk) (D.fault_count self.new.disk) }
-        ensures smaller { Shrinks result (state_of self.old) (state_of self.new) self.old.job self.new.job }
-        ensures end { EndsExactly result (state_of self.old) (state_of self.new) self.old.job }
-        ensures moves { StepMoves result self.old.stage (state_of self.old) (state_of self.new) self.old.job }
-        ensures rises { Rises (covers_of self.old.job) (covers_of self.new.job) (state_of self.old) (state_of self.new) }
     {
         homes();
         match self.disk.flush() {

@@ -3,7 +3,6 @@ ghost use Rattle.std.specs.Prelude.{ℕ, ◌≡◌, ◌≢◌, []};
 ghost use Rattle.log_store.specs.declared.store.Job.TheVariants.{Force, Home, Idle, Nothing, WriteBack};
 ghost use Rattle.log_store.specs.declared.store.Stage.TheVariants.{Down, Free};
 ghost use Rattle.log_store.specs.Actions.{IsDoneBy, IsStep, end_job, home_action, room_action};
-ghost use Rattle.log_store.specs.Outcome.{EndsExactly, IsStepOutcome, Rises, Shrinks, StepMoves, covers_of};
 ghost use Rattle.log_store.specs.State.{state_of};
 ghost use Rattle.log_store.specs.Steps.{Covering, Goes, IsStore};
 
@@ -44,26 +43,6 @@ impl<D: Disk> Store<D> {
         requires store { IsStore D.known D.cells D.sector_count self.old }
         ensures goes { Goes D.known D.cells D.sector_count D.moment D.left_since self.old self.new }
         ensures step { IsStep D.known D.cells D.sector_count D.arming D.fault_count result self.old self.new }
-        ensures outcome { IsStepOutcome result (state_of self.old) (state_of self.new) self.old.job self.new.job (D.fault_count self.old.disk) (D.fault_count self.new.disk) }
-        ensures end { EndsExactly result (state_of self.old) (state_of self.new) self.old.job }
-        ensures moves { StepMoves result self.old.stage (state_of self.old) (state_of self.new) self.old.job }
-        ensures rises { Rises (covers_of self.old.job) (covers_of self.new.job) (state_of self.old) (state_of self.new) }
-        ensures down { (fault : ℕ) → self.old.stage ≡ Down fault → (result ≡ Err (StoreFault.Down fault)) × (self.new ≡ record self.old { job = Idle }) }
-    {
-        self.make_step()
-    }
-
-    /// The same, with a bound of the steps that are left.
-    pub(crate) fn make_step(&mut self) -> Result<Progress, StoreFault>
-        requires store { IsStore D.known D.cells D.sector_count self.old }
-        ensures goes { Goes D.known D.cells D.sector_count D.moment D.left_since self.old self.new }
-        ensures step { IsStep D.known D.cells D.sector_count D.arming D.fault_count result self.old self.new }
-        ensures outcome { IsStepOutcome result (state_of self.old) (state_of self.new) self.old.job self.new.job (D.fault_count self.old.disk) (D.fault_count self.new.disk) }
-        ensures smaller { Shrinks result (state_of self.old) (state_of self.new) self.old.job self.new.job }
-        ensures end { EndsExactly result (state_of self.old) (state_of self.new) self.old.job }
-        ensures moves { StepMoves result self.old.stage (state_of self.old) (state_of self.new) self.old.job }
-        ensures rises { Rises (covers_of self.old.job) (covers_of self.new.job) (state_of self.old) (state_of self.new) }
-        ensures down { (fault : ℕ) → self.old.stage ≡ Down fault → (result ≡ Err (StoreFault.Down fault)) × (self.new ≡ record self.old { job = Idle }) }
     {
         match self.stage {
             Stage::Down(fault) => {
@@ -83,11 +62,6 @@ impl<D: Disk> Store<D> {
         requires stage { self.old.stage ≡ Free }
         ensures goes { Goes D.known D.cells D.sector_count D.moment D.left_since self.old self.new }
         ensures step { IsStep D.known D.cells D.sector_count D.arming D.fault_count result self.old self.new }
-        ensures outcome { IsStepOutcome result (state_of self.old) (state_of self.new) self.old.job self.new.job (D.fault_count self.old.disk) (D.fault_count self.new.disk) }
-        ensures smaller { Shrinks result (state_of self.old) (state_of self.new) self.old.job self.new.job }
-        ensures end { EndsExactly result (state_of self.old) (state_of self.new) self.old.job }
-        ensures moves { StepMoves result self.old.stage (state_of self.old) (state_of self.new) self.old.job }
-        ensures rises { Rises (covers_of self.old.job) (covers_of self.new.job) (state_of self.old) (state_of self.new) }
     {
         match self.job {
             Job::Force => self.force_step(),
@@ -107,11 +81,6 @@ impl<D: Disk> Store<D> {
         requires job { self.old.job ≡ Force }
         ensures goes { Goes D.known D.cells D.sector_count D.moment D.left_since self.old self.new }
         ensures step { IsStep D.known D.cells D.sector_count D.arming D.fault_count result self.old self.new }
-        ensures outcome { IsStepOutcome result (state_of self.old) (state_of self.new) self.old.job self.new.job (D.fault_count self.old.disk) (D.fault_count self.new.disk) }
-        ensures smaller { Shrinks result (state_of self.old) (state_of self.new) self.old.job self.new.job }
-        ensures end { EndsExactly result (state_of self.old) (state_of self.new) self.old.job }
-        ensures moves { StepMoves result self.old.stage (state_of self.old) (state_of self.new) self.old.job }
-        ensures rises { Rises (covers_of self.old.job) (covers_of self.new.job) (state_of self.old) (state_of self.new) }
     {
         if self.queue.is_empty() {
             self.job = Job::Idle;
@@ -134,11 +103,6 @@ impl<D: Disk> Store<D> {
         ensures done { IsDoneBy D.known D.cells D.sector_count D.arming D.fault_count
             (room_action (state_of self.old)) result self.old.job (state_of self.old) self.old.disk self.new }
         ensures batch { self.new.batch ≡ self.old.batch }
-        ensures outcome { IsStepOutcome result (state_of self.old) (state_of self.new) self.old.job self.new.job (D.fault_count self.old.disk) (D.fault_count self.new.disk) }
-        ensures smaller { Shrinks result (state_of self.old) (state_of self.new) self.old.job self.new.job }
-        ensures end { EndsExactly result (state_of self.old) (state_of self.new) self.old.job }
-        ensures moves { StepMoves result self.old.stage (state_of self.old) (state_of self.new) self.old.job }
-        ensures rises { Rises (covers_of self.old.job) (covers_of self.new.job) (state_of self.old) (state_of self.new) }
     {
         if !self.dirty.is_empty() {
             return self.write_home();
@@ -157,11 +121,6 @@ impl<D: Disk> Store<D> {
         ensures goes { Goes D.known D.cells D.sector_count D.moment D.left_since self.old self.new }
         ensures done { IsDoneBy D.known D.cells D.sector_count D.arming D.fault_count
             (home_action self.old.dirty.images self.old.unflushed end_job) result self.old.job (state_of self.old) self.old.disk self.new }
-        ensures outcome { IsStepOutcome result (state_of self.old) (state_of self.new) self.old.job self.new.job (D.fault_count self.old.disk) (D.fault_count self.new.disk) }
-        ensures smaller { Shrinks result (state_of self.old) (state_of self.new) self.old.job self.new.job }
-        ensures end { EndsExactly result (state_of self.old) (state_of self.new) self.old.job }
-        ensures moves { StepMoves result self.old.stage (state_of self.old) (state_of self.new) self.old.job }
-        ensures rises { Rises (covers_of self.old.job) (covers_of self.new.job) (state_of self.old) (state_of self.new) }
     {
         if !self.dirty.is_empty() {
             return self.write_home();

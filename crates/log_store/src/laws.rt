@@ -1,5 +1,5 @@
 // What holds of a store's disk, step by step, whatever the disk is.
-ghost use Rattle.std.specs.Prelude.{ℕ, ◌≡◌, ◌≤◌, ◌<◌, ◌+◌, ◌^◌, false, List, [], ◌∷◌, length, take};
+ghost use Rattle.std.specs.Prelude.{ℕ, ◌≡◌, ◌≤◌, ◌<◌, ◌+◌, ◌^◌, ◌↔◌, IsTrue, false, List, [], ◌∷◌, length, take, Result};
 ghost use Rattle.life_bytes.specs.declared.sector.Sector.{Sector};
 ghost use Rattle.disk_model.specs.Disk.{Cell, IsImage, IsPartlyWritten, flushed, written};
 ghost use Rattle.log_record.specs.declared.image.Image.{Image};
@@ -9,14 +9,15 @@ ghost use Rattle.log_batch.specs.Newest.{commit_images};
 ghost use Rattle.log_batch.specs.Put.{KeysRise};
 ghost use Rattle.log_store.specs.Actions.{IsStep};
 ghost use Rattle.log_store.specs.Landed.{RingFits, covered_state, flushed_home, landed, written_home};
-ghost use Rattle.log_store.specs.OnDisk.{AtRest, Covers, Flies, HoldsState, ReplaysTo, base_of, cover_written, fully_written, half_written};
-ghost use Rattle.log_store.specs.Outcome.{steps_left};
+ghost use Rattle.log_store.specs.OnDisk.{AtRest, Covers, Flies, HasCover, HoldsState, ReplaysTo, base_of, cover_written, fully_written, half_written};
+ghost use Rattle.log_store.specs.Outcome.{EndsPastAt, IsDone, IsFault, Rises, covers_of, goal_of, steps_left};
 ghost use Rattle.log_store.specs.State.{State, state_of};
 ghost use Rattle.log_store.specs.Steps.{IsStore};
 ghost use Rattle.log_store.specs.declared.store.Store.{Store};
+ghost use Rattle.log_store.specs.declared.store.Job.TheVariants.{Home};
 ghost use Rattle.log_store.specs.declared.store.Stage.TheVariants.{Cover};
 
-use crate::fault::Progress;
+use crate::fault::{Progress, StoreFault};
 use crate::store::Store;
 use disk_model::Disk;
 use log_image::{covers, disk_writes, home_writes, torn_records};
@@ -48,6 +49,8 @@ pub(crate) fn cover_flights()
         → AtRest (covered_state s) (flushed (cover_written s before)) }
     ensures base { (s : State) (before : List Cell) → Covers s before → RingFits s before → s.head + 1 ≤ 2 ^ 63
         → base_of (covered_state s) (flushed (cover_written s before)) ≡ base_of s before }
+    ensures last { (s : State) (before : List Cell) (image : List Sector) → Covers s before → RingFits s before → s.head + 1 ≤ 2 ^ 63
+        → IsImage (flushed (cover_written s before)) image → HasCover s.anchor s.ring s.head (s.durable + 1) image }
 {
     torn_records();
     home_writes();
@@ -93,3 +96,34 @@ pub fn jobs_end<D: Disk>()
         → IsStep D.known D.cells D.sector_count D.arming D.fault_count (Ok Progress.More) old new
         → steps_left (state_of new) new.job < steps_left (state_of old) old.job }
 {}
+
+/// Laws of a step, whatever the job: that the positions are used up is answered exactly where the record that comes next
+/// would end past the last one; how far the head rises; until a job ends its goal stays, and then it is reached; and a
+/// fault is one of that job.
+pub fn steps_go_on<D: Disk>()
+    ensures position_end { (result : Result Progress StoreFault) (old new : Store D)
+        → IsStep D.known D.cells D.sector_count D.arming D.fault_count result old new
+        → (result ≡ Err StoreFault.PositionEnd) ↔ EndsPastAt old.stage old.job (state_of old) (length new.batch) }
+    ensures rises { (result : Result Progress StoreFault) (old new : Store D) → IsStore D.known D.cells D.sector_count old
+        → IsStep D.known D.cells D.sector_count D.arming D.fault_count result old new
+        → Rises (covers_of old.job) (covers_of new.job) (state_of old) (state_of new) }
+    ensures goal { (old new : Store D) → IsStore D.known D.cells D.sector_count old
+        → IsStep D.known D.cells D.sector_count D.arming D.fault_count (Ok Progress.More) old new
+        → goal_of new.job ≡ goal_of old.job }
+    ensures done { (old new : Store D) → IsStore D.known D.cells D.sector_count old
+        → IsStep D.known D.cells D.sector_count D.arming D.fault_count (Ok Progress.Ended) old new
+        → IsDone old.job (state_of new) }
+    ensures fault { (fault : StoreFault) (old new : Store D) → IsStore D.known D.cells D.sector_count old
+        → IsStep D.known D.cells D.sector_count D.arming D.fault_count (Err fault) old new
+        → IsFault fault old.job (state_of new) (D.fault_count old.disk) (D.fault_count new.disk) }
+{}
+
+/// Law: where a job that goes home has ended, the last record of each image of the disk is a cover, and stands alone.
+pub fn home_ends_in_a_cover<D: Disk>()
+    ensures { (old new : Store D) (image : List Sector) → IsStore D.known D.cells D.sector_count old
+        → IsStep D.known D.cells D.sector_count D.arming D.fault_count (Ok Progress.Ended) old new → old.job ≡ Home
+        → IsTrue D.known → IsImage (D.cells new.disk) image
+        → HasCover old.anchor old.ring old.positions.head (old.durable + 1) image }
+{
+    cover_flights();
+}

@@ -13,8 +13,5 @@ mod take;
 
 pub use begin::begin_store;
 pub use fault::{Progress, StoreFault};
-pub use laws::jobs_end;
+pub use laws::{home_ends_in_a_cover, jobs_end, steps_go_on};
 pub use store::Store;
-
-#[cfg(test)]
-mod tests;

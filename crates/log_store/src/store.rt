@@ -53,6 +53,10 @@ pub struct Store<D: Disk> {
     pub(crate) queue: VecDeque<Commit>,
     /// The logged sectors that are not home.
     pub(crate) dirty: DirtySectors,
+    /// How many images the queue's commits have.
+    pub(crate) waiting: usize,
+    /// For how many more there is room beside those.
+    pub(crate) spare: usize,
     /// Whether sectors were written home since the last flush.
     pub(crate) unflushed: bool,
     /// The images of the record that is being written.

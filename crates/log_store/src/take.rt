@@ -1,8 +1,8 @@
 // Taking commits.
-ghost use Rattle.std.specs.Prelude.{◌≡◌, ◌≤◌, ◌<◌, ◌+◌, ◌-◌, ◌^◌, [], ◌∷◌, ◌++◌, length, IfSome, OnOk};
+ghost use Rattle.std.specs.Prelude.{◌≡◌, ◌≤◌, ◌<◌, ◌+◌, ◌-◌, ◌^◌, [], ◌∷◌, ◌++◌, length, OnOk};
 ghost use Rattle.std.specs.List.{All};
 ghost use Rattle.log_image.specs.Log.{IsGroupImage};
-ghost use Rattle.log_batch.specs.Newest.{IsCommit, commit_images};
+ghost use Rattle.log_batch.specs.Newest.{IsCommit};
 ghost use Rattle.log_store.specs.Spare.{spare_commits, spare_images};
 ghost use Rattle.log_store.specs.State.{state_of};
 ghost use Rattle.log_store.specs.Steps.{IsStore};
@@ -11,18 +11,6 @@ use crate::store::Store;
 use disk_model::Disk;
 use life_ports::NoMemory;
 use log_record::Commit;
-use std::collections::VecDeque;
-
-/// How many images commits have, where that is a number of 64 bits.
-fn count_images(commits: &VecDeque<Commit>) -> Option<usize>
-    ensures { IfSome result (λ count. count ≡ length (commit_images commits.now.items)) }
-{
-    let mut count = 0usize;
-    for i in 0..commits.len() {
-        count = count.checked_add(commits[i].images.len())?;
-    }
-    Some(count)
-}
 
 impl<D: Disk> Store<D> {
     /// Makes room for so many more commits with so many images, and for all that making them durable and writing
@@ -37,14 +25,17 @@ impl<D: Disk> Store<D> {
         ensures images { OnOk result (images ≤ spare_images self.new) }
         ensures kept { (spare_commits self.old ≤ spare_commits self.new) × (spare_images self.old ≤ spare_images self.new) }
     {
-        let Some(waiting) = count_images(&self.queue) else {
-            return Err(NoMemory);
-        };
-        let Some(more) = waiting.checked_add(images as usize) else {
-            return Err(NoMemory);
-        };
         self.queue.reserve(commits as usize)?;
-        self.dirty.reserve(more)
+        let images = images as usize;
+        if images <= self.spare {
+            return Ok(());
+        }
+        let Some(more) = self.waiting.checked_add(images) else {
+            return Err(NoMemory);
+        };
+        self.dirty.reserve(more)?;
+        self.spare = images;
+        Ok(())
     }
 
     /// Takes a commit, which gets the next number. There has to be room for it.
@@ -62,6 +53,8 @@ impl<D: Disk> Store<D> {
         ensures commits { spare_commits self.new + 1 ≡ spare_commits self.old }
         ensures images { spare_images self.new + length commit.images ≡ spare_images self.old }
     {
+        self.waiting += commit.images.len();
+        self.spare -= commit.images.len();
         self.queue.push_back_reserved(commit);
     }
 }

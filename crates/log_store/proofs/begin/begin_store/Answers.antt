@@ -30,7 +30,7 @@ returns-clause-store g c =
         numbers = omega (arith, c.requires.number.1, ap length items);
         rises = subst (λ (l : List Image). KeysRise (λ (i : Image). i.home) 0 l) (sym none) tt;
         homes = subst (λ (l : List Image). All (IsGroupImage c.args.anchor) l) (sym none) (All-nil (IsGroupImage c.args.anchor));
-        room = omega (arith, ap (λ (l : List Commit). length (commit_images l)) items);
+        room = record { counted = sym (ap (λ (l : List Commit). length (commit_images l)) items); within = omega arith; countable = omega arith };
         buffer = omega (arith, c.in-Ok-vec.ensures.len, c.in-Ok-vec.sectors.ok.0);
         stage = tt;
         job = tt;

@@ -1,10 +1,10 @@
-use Rattle.std.proofs.Common.{◌≡◌, ℕ, ◌+◌, ◌<◌, List, [], take, sym, ap, ◌∙◌, subst, inl, inr, arith}
+use Rattle.std.proofs.Common.{◌≡◌, ℕ, ◌+◌, ◌^◌, ◌<◌, ◌≤◌, List, [], take, sym, ap, ◌∙◌, subst, inl, inr, arith}
 use Rattle.life_bytes.specs.declared.sector.Sector.{Sector}
 use Rattle.disk_model.specs.Disk.{Cell, IsImage, as_read, flushed, written}
 use Rattle.disk_model.specs.DiskLaws.{IsImage-as_read, IsImage-flushed, as_read-flushed, length-image}
 use Rattle.log_record.specs.declared.record.LogRecord.{LogRecord}
 use Rattle.log_record.specs.Encoding.{encoded_record}
-use Rattle.log_image.specs.Log.{groups_part}
+use Rattle.log_image.specs.Log.{IsLog, Log, empty_log, groups_part}
 use Rattle.log_image.specs.Overlay.{images_of, newest, overlaid}
 use Rattle.log_image.specs.OverlayLaws.{overlaid-none, newest-none}
 use Rattle.log_image.specs.Step.{IsLogged, IsPartlyLogged, cover_of, covered as covered_log, sector_of_position}
@@ -97,6 +97,24 @@ returns-clause-written c = λ s before image covers fits end is.
 pub returns-clause-base : goal.returns-clause-base
 returns-clause-base c = λ s before covers fits end. ap (λ (l : List Sector). overlaid l s.dirty) (same_groups c s before fits)
 
+-- the log of the cover
+covered_reads : (c : goal.After-disk_writes) (s : State) (before : List Cell) (covers : Covers s before) → RingFits s before → s.head + 1 ≤ 2 ^ 63
+    → IsLog (as_read (cover_written s before)) s.anchor s.ring (covered_log covers.rest.log)
+covered_reads c s before covers fits end =
+    let log = covers.rest.log in
+    let reads = as_read (cover_written s before) in
+    let has = covers.rest.images (as_read before) (IsImage-as_read before) in
+    let whole = subst (λ (item : LogRecord). IsLogged s.anchor s.ring item (as_read before) reads) (same_cover s before covers) (read_whole c s before fits) in
+    c.covers.ensures.whole (as_read before) reads s.anchor s.ring log has.says has.below fits.some (omega (arith, covers.rest.end, end)) whole
+
+pub returns-clause-last : goal.returns-clause-last
+returns-clause-last c = λ s before image covers fits end is.
+    let one : ℕ → ℕ → Log = λ at next. covered_log (empty_log at next) in
+    let same : covered_log covers.rest.log ≡ one s.head (s.durable + 1) =
+    ap (λ (at : ℕ). one at covers.rest.log.next) covers.rest.end ∙ ap (one s.head) covers.rest.next in
+    subst (λ (l : List Sector). IsLog l s.anchor s.ring (one s.head (s.durable + 1))) (sym (IsImage-flushed (cover_written s before) image is))
+    (subst (IsLog (as_read (cover_written s before)) s.anchor s.ring) same (covered_reads c s before covers fits end))
+
 pub returns-clause-landed : goal.returns-clause-landed
 returns-clause-landed c = λ s before covers fits end.
     let log = covers.rest.log in
@@ -109,7 +127,7 @@ returns-clause-landed c = λ s before covers fits end.
     let bare : base_of (covered_state s) (flushed after) ≡ groups_part s.anchor (as_read (flushed after)) =
     ap (overlaid (groups_part s.anchor (as_read (flushed after)))) covers.dirty ∙ overlaid-none (groups_part s.anchor (as_read (flushed after))) in
     let right : HasLogTo s.anchor s.ring (covered_log log) (base_of (covered_state s) (flushed after)) reads = record {
-      says = c.covers.ensures.whole (as_read before) reads s.anchor s.ring log has.says has.below fits.some (omega (arith, covers.rest.end, end)) whole;
+      says = covered_reads c s before covers fits end;
       below = c.covers.ensures.below (as_read before) reads s.anchor s.ring log has.says has.below fits.some part;
       groups = c.covers.ensures.replayed s.anchor reads log ∙ sym (bare ∙ ap (take s.anchor) (as_read-flushed after));
     } in

@@ -20,9 +20,9 @@ use Rattle.log_store.specs.declared.store.Stage.TheVariants.{Cover, Free, Record
 use Rattle.log_store.specs.declared.store.Job.{Job}
 use Rattle.log_store.specs.declared.store.Job.TheVariants.{Clear, Force, Home, Idle}
 use Rattle.log_store.specs.Landed.{RingFits, landed}
-use Rattle.log_store.specs.OnDisk.{AtRest, Flies, HoldsAtStage, ReplaysTo, ReplaysUpTo, base_of, fully_written, half_written, item_of}
+use Rattle.log_store.specs.OnDisk.{AtRest, Flies, HoldsAtStage, IsTaken, ReplaysTo, ReplaysUpTo, base_of, fully_written, half_written, item_of}
 use Rattle.log_store.specs.State.{State, state_of}
-use Rattle.log_store.specs.Steps.{Goes, IsInFlight, JobAsks, JobFits, StageFits}
+use Rattle.log_store.specs.Steps.{Goes, HasRoom, IsInFlight, JobAsks, JobFits, StageFits}
 use Rattle.log_store.proofs.Falls.{falls}
 use Rattle.log_store.proofs.Going.{leaves, replays_wider}
 use Rattle.log_store.proofs.Launch.{groups_batch, length_batch}
@@ -59,17 +59,21 @@ groups_left anchor n commits all =
     (sym (drop_at (commit_images (take n commits)) (commit_images (drop n commits)) (length (commit_images (take n commits))) refl))
     (All-drop (IsGroupImage anchor) (length (commit_images (take n commits))) (commit_images (take n commits) ++ commit_images (drop n commits)) whole)
 
-few_if : (b : Bool) (x y : ℕ) → x ≤ 10 → y ≤ 10 → cond b x y ≤ 10
-few_if true x y one other = one
-few_if false x y one other = other
+-- the commits of a record that is flushed wait no more, and their images take the room that was held for them
+room_left : (list left : List Commit) (batch : List Image) (taken room now waiting rest spare : ℕ) → HasRoom list room waiting spare → IsTaken list taken batch
+    → left ≡ drop taken list → rest ≡ length (commit_images left) → room ≤ now + length batch → HasRoom left now rest spare
+room_left list left batch taken room now waiting rest spare has is left_is rest_is le =
+    let both = ap length (commit_images-split taken list) in
+    let sizes = length-append (commit_images (take taken list)) (commit_images (drop taken list)) in
+    let left_size : length (commit_images left) ≡ length (commit_images (drop taken list)) = ap (λ (l : List Commit). length (commit_images l)) left_is in
+    record {
+      counted = rest_is;
+      within = omega (arith, has.counted, has.within, rest_is, le, length_batch taken list batch is, both, sizes, left_size);
+      countable = omega (arith, has.counted, has.countable, rest_is, both, sizes, left_size);
+    }
 
-rest_few : (job : Job) (s : State) → steps_at_rest job s ≤ 10
-rest_few Force s = few_if (nat_lt s.ring ((s.head - s.tail) + MAX_RECORD_SECTORS + 1)) 10 5 (omega arith) (omega arith)
-rest_few Clear s = few_if s.unflushed 8 7 (omega arith) (omega arith)
-rest_few Home s = few_if s.unflushed 8 7 (omega arith) (omega arith)
-rest_few WriteBack s = few_if s.unflushed 8 7 (omega arith) (omega arith)
-rest_few Nothing s = omega arith
-rest_few Idle s = omega arith
+pub drop_front-requires : goal.drop_front-requires
+drop_front-requires g c = c.requires.store.sound.room.counted
 
 pub put_all-requires : goal.put_all-requires
 put_all-requires g c =
@@ -83,7 +87,8 @@ put_all-requires g c =
     let split = ap length (commit_images-split old.taken old.queue.items) in
     omega (
       arith,
-      sound.room,
+      sound.room.counted,
+      sound.room.within,
       ap length c.images.ensures,
       length_batch old.taken old.queue.items old.batch flight.batch,
       split,
@@ -141,8 +146,6 @@ returns-then-is_empty-clause-goes g c =
       taken = old.taken;
       stage = Free;
     } in
-    let split = commit_images-split old.taken old.queue.items in
-    let sizes = ap length split in
     record {
       store = record {
         sound = record {
@@ -155,16 +158,9 @@ returns-then-is_empty-clause-goes g c =
           rises = subst (λ (l : List Image). KeysRise (λ (i : Image). i.home) 0 l) (sym dirty_is) (Rises-put_all old.batch old.dirty.images sound.rises);
           homes = subst (λ (l : List Image). All (IsGroupImage old.anchor) l) (sym dirty_is)
               (All-put_all (IsGroupImage old.anchor) old.batch old.dirty.images (groups_batch old.anchor old.taken old.queue.items old.batch flight.batch sound.groups) sound.homes);
-          room = omega (
-            arith,
-            sound.room,
-            c.put_all.ensures.room,
-            ap length c.images.ensures,
-            length_batch old.taken old.queue.items old.batch flight.batch,
-            sizes,
-            length-append (commit_images (take old.taken old.queue.items)) (commit_images (drop old.taken old.queue.items)),
-            ap (λ (l : List Commit). length (commit_images l)) list_is,
-          );
+          room = room_left old.queue.items c.drop_front.new.queue.items old.batch old.taken old.dirty.room c.put_all.new.self.room old.waiting c.drop_front.new.waiting old.spare
+              sound.room flight.batch list_is c.drop_front.ensures.counted
+              (omega (arith, c.put_all.ensures.room, ap length c.images.ensures));
           buffer = sound.buffer;
           stage = tt;
           job = tt;
@@ -242,8 +238,6 @@ returns-else-is_empty-clause-goes g c =
       taken = old.taken;
       stage = Free;
     } in
-    let split = commit_images-split old.taken old.queue.items in
-    let sizes = ap length split in
     record {
       store = record {
         sound = record {
@@ -256,16 +250,9 @@ returns-else-is_empty-clause-goes g c =
           rises = subst (λ (l : List Image). KeysRise (λ (i : Image). i.home) 0 l) (sym dirty_is) (Rises-put_all old.batch old.dirty.images sound.rises);
           homes = subst (λ (l : List Image). All (IsGroupImage old.anchor) l) (sym dirty_is)
               (All-put_all (IsGroupImage old.anchor) old.batch old.dirty.images (groups_batch old.anchor old.taken old.queue.items old.batch flight.batch sound.groups) sound.homes);
-          room = omega (
-            arith,
-            sound.room,
-            c.put_all.ensures.room,
-            ap length c.images.ensures,
-            length_batch old.taken old.queue.items old.batch flight.batch,
-            sizes,
-            length-append (commit_images (take old.taken old.queue.items)) (commit_images (drop old.taken old.queue.items)),
-            ap (λ (l : List Commit). length (commit_images l)) list_is,
-          );
+          room = room_left old.queue.items c.drop_front.new.queue.items old.batch old.taken old.dirty.room c.put_all.new.self.room old.waiting c.drop_front.new.waiting old.spare
+              sound.room flight.batch list_is c.drop_front.ensures.counted
+              (omega (arith, c.put_all.ensures.room, ap length c.images.ensures));
           buffer = sound.buffer;
           stage = tt;
           job = tt;
@@ -291,42 +278,6 @@ returns-else-is_empty-clause-goes g c =
       moments = λ tells. leaves _ _ _ _ cells (ReplaysUpTo c.wrote.new.self.head s cells) (c.in-Ok.ensures.time tells)
           (λ image is. replays_wider old.positions.head c.wrote.new.self.head s cells image (omega (arith, head_is)) (images tells image is));
     }
-
-pub returns-else-is_empty-clause-smaller : goal.returns-else-is_empty-clause-smaller
-returns-else-is_empty-clause-smaller g c =
-    let old = c.args.self.now in
-    let sound = c.requires.store.sound in
-    let s : State = state_of old in
-    let cells = g.D.Disk.cells old.disk in
-    let disk = c.flush.new.self in
-    let flight : IsInFlight s old.sectors.items old.count =
-    subst (λ (st : Stage). StageFits st s old.sectors.items old.count) c.requires.stage sound.stage in
-    let now : State = record {
-      anchor = old.anchor;
-      ring = old.ring;
-      head = c.wrote.new.self.head;
-      tail = c.wrote.new.self.tail;
-      durable = old.durable + old.taken;
-      list = c.drop_front.new.queue.items;
-      dirty = c.put_all.new.self.images;
-      unflushed = false;
-      batch = old.batch;
-      taken = old.taken;
-      stage = Free;
-    } in
-    let at : steps_at old.stage old.job s ≡ 3 = ap (λ (st : Stage). steps_at st old.job s) c.requires.stage in omega (
-      arith,
-      at,
-      rest_few old.job now,
-      flight.some,
-      flight.batch.within,
-      flight.batch.few,
-      ap length c.drop_front.ensures.list,
-      length-drop old.taken old.queue.items,
-      ap length c.put_all.ensures.images,
-      ap length c.images.ensures,
-      length-put_all-le c.images.result.now old.dirty.images,
-    )
 
 pub returns-in-Err-clause-goes : goal.returns-in-Err-clause-goes
 returns-in-Err-clause-goes g c =

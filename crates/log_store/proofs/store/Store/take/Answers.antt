@@ -110,7 +110,17 @@ returns-clause-store g c =
         numbers = omega (arith, c.requires.number, ap length items, length-append old.queue.items (commit ∷ []));
         rises = sound.rises;
         homes = sound.homes;
-        room = omega (arith, c.requires.images, ap (λ (l : List Commit). length (commit_images l)) items, ap length pushed, length-append (commit_images old.queue.items) commit.images);
+        room = record {
+          counted = omega (
+            arith,
+            sound.room.counted,
+            ap (λ (l : List Commit). length (commit_images l)) items,
+            ap length pushed,
+            length-append (commit_images old.queue.items) commit.images,
+          );
+          within = omega (arith, c.requires.images, sound.room.within);
+          countable = omega (arith, c.requires.images, sound.room.countable);
+        };
         buffer = sound.buffer;
         stage = subst (λ (l : List Commit). StageFits old.stage (record s { list = l }) old.sectors.items old.count) (sym items) (fits_more old.stage s commit old.sectors.items old.count sound.stage);
         job = sound.job;

@@ -38,7 +38,7 @@ returns-in-Ok-clause-goes g c =
           numbers = sound.numbers;
           rises = subst (λ (l : List Image). KeysRise (λ (i : Image). i.home) 0 l) (sym images) (rises_rest old.dirty.images image rest is sound.rises);
           homes = subst (λ (l : List Image). All (IsGroupImage old.anchor) l) (sym images) (All-drop (IsGroupImage old.anchor) 1 old.dirty.images sound.homes);
-          room = omega (arith, sound.room, c.remove_first.ensures.room);
+          room = record { counted = sound.room.counted; within = omega (arith, sound.room.within, c.remove_first.ensures.room); countable = sound.room.countable };
           buffer = sound.buffer;
           stage = stage_free old.stage _ old.sectors.items old.count c.requires.stage;
           job = sound.job;

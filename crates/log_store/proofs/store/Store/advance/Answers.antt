@@ -4,7 +4,7 @@ use Rattle.log_store.specs.declared.store.Stage.TheVariants.{Down}
 use Rattle.log_store.specs.declared.store.Job.TheVariants.{Idle}
 use Rattle.log_store.specs.Steps.{JobFits}
 use Rattle.log_store.proofs.Ways.{goes_job}
-use Rattle.log_store.proofs.store.Store.make_step.Goals as goal
+use Rattle.log_store.proofs.store.Store.advance.Goals as goal
 
 down_idle : (stage : Stage) (fault : ℕ) → stage ≡ Down fault → JobFits stage Idle
 down_idle stage fault is = subst (λ (st : Stage). JobFits st Idle) (sym is) tt

@@ -1,7 +1,0 @@
-use Rattle.std.proofs.Common.{length, true}
-use Rattle.disk_model.specs.MemoryDisk.{cells_of}
-use Rattle.log_store.specs.Steps.{IsStore}
-use Rattle.log_store.proofs.tests.a_thousand_forces_go_round_the_ring.Given as goal
-
-abbrev pub invariant-loop-i : goal.invariant-loop-i
-invariant-loop-i g l = IsStore true cells_of (λ disk. length (cells_of disk)) l.store
