@@ -185,6 +185,7 @@ mounted_is_right none rows tells start w m =
       group_locks = λ g a. no_lock g a (cache_at w.memory g).holder _ (free_at w.history.table.blocks w.memory.groups m.fresh g) (idle a);
       log_lock = λ a. no_log_lock a w.holder _ m.holder (idle a);
       actors = λ a. subst (λ (actor : Actor). ActorIsRight start w.history w.memory a actor) (sym (idle a)) (record {
+        there = tt;
         queue = sym (ap (λ (entries : List Entry). queue_from start (take (length w.history.entries) entries) a []) m.entries ∙ nothing_waits start MAX_ACTORS a m.keys (length w.history.entries));
         doing = tt;
       });

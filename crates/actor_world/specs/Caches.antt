@@ -1,10 +1,9 @@
 -- What is in memory, looked up and changed: actors, locks of groups, and slots of numbers.
-use Rattle.std.specs.Prelude.{◌+◌, ◌*◌, ◌/◌, ◌%◌, ◌==◌, ◌&&◌, ℕ, Bool, true, false, List, [], ◌∷◌, Option, None, Some, if◌then◌else◌, map, nat_lt, length, slice_set, slice_index_or}
+use Rattle.std.specs.Prelude.{◌+◌, ◌*◌, ◌/◌, ◌%◌, ◌==◌, ◌&&◌, ℕ, Bool, true, false, not, List, [], ◌∷◌, Option, None, Some, if◌then◌else◌, map, nat_lt, length, slice_set, slice_index_or}
 use Rattle.life_limits.specs.declared.TheConstants.{BLOCK_SECTORS, GROUP_NUMBERS}
 use Rattle.life_table.specs.declared.key.Key.{Key}
 use Rattle.life_table.specs.declared.table.Table.{Table}
 use Rattle.slot_words.specs.declared.word.Word.{Word}
-use Rattle.slot_words.specs.Words.{number_of}
 use Rattle.actor_world.specs.declared.memory.Residence.{Residence}
 use Rattle.actor_world.specs.declared.memory.Residence.TheVariants.{Absent, Clean, Dirty}
 use Rattle.actor_world.specs.declared.memory.Slot.{Slot}
@@ -130,9 +129,16 @@ clean_numbers number (slot ∷ slots) =
 abbrev pub clean_of : Memory → ℕ → List ℕ
 clean_of m g = clean_numbers (g * GROUP_NUMBERS) (cache_at m g).slots
 
--- an exchange finds a word as it was seen
+-- whether two bits are the same
+abbrev pub same_bit : Bool → Bool → Bool
+same_bit true other = other
+same_bit false other = not other
+
+-- an exchange finds a word as it was seen, in each of its parts
 abbrev pub same_word : Word → Word → Bool
-same_word word seen = number_of word == number_of seen
+same_word word seen =
+    (word.generation == seen.generation)
+    && (same_bit word.live seen.live && (same_bit word.unlinked seen.unlinked && ((word.unused == seen.unused) && (word.pins == seen.pins))))
 
 -- The number is of the geometry: of a group that there is, and in a group the number of one of its sectors.
 abbrev pub is_of_geometry : Table → ℕ → Bool

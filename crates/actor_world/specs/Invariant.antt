@@ -30,7 +30,7 @@ use Rattle.actor_world.specs.declared.memory.Doing.{Doing}
 use Rattle.actor_world.specs.declared.memory.Actor.{Actor}
 use Rattle.actor_world.specs.declared.memory.Memory.{Memory}
 use Rattle.actor_world.specs.Caches.{actor_at, cache_at, cached_word, slot_at}
-use Rattle.actor_world.specs.Moves.{group_of_call, lies_in_group, lies_in_log}
+use Rattle.actor_world.specs.Moves.{group_of_call, lies_in_group, lies_in_log, stands_at}
 use Rattle.actor_world.specs.World.{History, World, told}
 use Rattle.actor_world.specs.Steps.{Telling}
 use Rattle.actor_world.specs.Words.{Due, DueHolds, WordSays, due_at, due_number, nothing}
@@ -159,11 +159,29 @@ FreesAreRight entries froms t a begin made (place.Free key others) = ((gone : Ke
 FreesAreRight entries froms t a begin made (place.Kill key others) = HasFreed entries froms a begin key
 FreesAreRight entries froms t a begin made _ = ⊤
 
--- what is so of an actor in a call: the call began before now; it has its hold; its entry and its frees are as its place
--- says; and what the place keeps is so
+-- a group of the image is there
+abbrev pub IsThere : Memory → Option ℕ → Type 0
+IsThere m None = ⊤
+IsThere m (Some g) = g < length m.groups
+
+-- the group of a call is there; an open has not looked for it at its first place
+abbrev pub GroupIsThere : Memory → List Key → Call → Place → Type 0
+GroupIsThere m queue (call.OpenKey key) place.Load = ⊤
+GroupIsThere m queue made at = IsThere m (group_of_call queue made)
+
+-- the key that a call made whose word is not in place yet
+abbrev pub key_made : Place → Option Key
+key_made (place.InstallMade key) = Some key
+key_made _ = None
+
+-- what is so of an actor in a call: the call began before now; it stands at one of its places; its group is there; it has
+-- its hold, also on what it has made; its entry and its frees are as its place says; and what the place keeps is so
 pub record CallIsRight (start : Table) (h : History) (m : Memory) (a : ℕ) (queue : List Key) (d : Doing) : Type 0 where
   pub begun : d.«from» ≤ length h.entries
+  pub stands : stands_at d.call d.place ≡ true
+  pub group : GroupIsThere m queue d.call d.place
   pub held : IsHeld h.entries a (key_of d.call)
+  pub made : IsHeld h.entries a (key_made d.place)
   pub entry : HasEntry h.entries h.froms a d.«from» d.call (reply_at d.place)
   pub frees : FreesAreRight h.entries h.froms h.table a d.«from» d.call d.place
   pub keeps : PlaceKeeps start h.entries h.table m queue (group_of_call queue d.call) d.«from» d.call d.place
@@ -193,8 +211,10 @@ abbrev pub QueueIsRight : Bool → Table → List Key → List Key → Type 0
 QueueIsRight true t queue whole = PartOfQueue t queue whole
 QueueIsRight false t queue whole = queue ≡ whole
 
--- what is so of an actor
+-- what is so of an actor: the groups of the keys that wait for it are there; they are those that its history left; and
+-- its call is right
 pub record ActorIsRight (start : Table) (h : History) (m : Memory) (a : ℕ) (actor : Actor) : Type 0 where
+  pub there : AllByRecursion (λ (key : Key). group_number key < length m.groups) actor.queue
   pub queue : QueueIsRight (is_gc actor.doing) h.table actor.queue (queue_at start h.entries (length h.entries) a)
   pub doing : DoingIsRight start h m a actor.queue actor.doing
 

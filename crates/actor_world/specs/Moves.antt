@@ -419,3 +419,92 @@ doing_move (Some d) a t m = if is_some (waits_in_group (actor_at m a).queue d m)
 
 abbrev pub move_of : ℕ → Table → Memory → Option Move
 move_of a t m = doing_move (actor_at m a).doing a t m
+
+-- ---- the places of calls
+
+abbrev pub is_open_place : Place → Bool
+is_open_place place.Load = true
+is_open_place (place.Pin seen) = true
+is_open_place place.Find = true
+is_open_place place.LoadLocked = true
+is_open_place (place.PinLocked seen) = true
+is_open_place place.Install = true
+is_open_place (place.Leave answer) = true
+is_open_place _ = false
+
+abbrev pub is_close_place : Place → Bool
+is_close_place place.Unpin = true
+is_close_place _ = false
+
+abbrev pub is_stat_place : Place → Bool
+is_stat_place place.Read = true
+is_stat_place (place.Leave answer) = true
+is_stat_place _ = false
+
+abbrev pub is_cut_place : Place → Bool
+is_cut_place place.Lock = true
+is_cut_place place.Change = true
+is_cut_place (place.Leave answer) = true
+is_cut_place _ = false
+
+abbrev pub is_link_place : Place → Bool
+is_link_place (place.Mark answer) = true
+is_link_place at = is_cut_place at
+
+abbrev pub is_grow_place : Place → Bool
+is_grow_place place.LockShort = true
+is_grow_place (place.Free key others) = true
+is_grow_place (place.Kill key others) = true
+is_grow_place place.Answer = true
+is_grow_place (place.Leave answer) = true
+is_grow_place _ = false
+
+abbrev pub is_create_place : Place → Bool
+is_create_place (place.InstallMade key) = true
+is_create_place at = is_grow_place at
+
+abbrev pub is_gc_place : Place → Bool
+is_gc_place place.Next = true
+is_gc_place place.FreeHead = true
+is_gc_place place.KillHead = true
+is_gc_place place.Pass = true
+is_gc_place _ = false
+
+abbrev pub is_flush_place : Place → Bool
+is_flush_place place.LockFlush = true
+is_flush_place place.Copy = true
+is_flush_place place.End = true
+is_flush_place _ = false
+
+abbrev pub is_reclaim_place : Place → Bool
+is_reclaim_place place.LockReclaim = true
+is_reclaim_place (place.Retire number others) = true
+is_reclaim_place place.End = true
+is_reclaim_place _ = false
+
+abbrev pub is_sync_place : Place → Bool
+is_sync_place place.Take = true
+is_sync_place place.Force = true
+is_sync_place _ = false
+
+abbrev pub is_home_place : Place → Bool
+is_home_place place.TakeLog = true
+is_home_place place.WriteHome = true
+is_home_place _ = false
+
+-- whether a call ever stands at a place
+abbrev pub stands_at : Call → Place → Bool
+stands_at (call.Create g) at = is_create_place at
+stands_at (call.Tmpfile g) at = is_create_place at
+stands_at (call.OpenKey key) at = is_open_place at
+stands_at (call.CloseKey key) at = is_close_place at
+stands_at (call.Link key) at = is_link_place at
+stands_at (call.Unlink key) at = is_link_place at
+stands_at (call.Grow key count) at = is_grow_place at
+stands_at (call.Cut key count) at = is_cut_place at
+stands_at (call.Stat key) at = is_stat_place at
+stands_at call.Sync at = is_sync_place at
+stands_at call.Home at = is_home_place at
+stands_at call.Gc at = is_gc_place at
+stands_at (call.FlushInodes g) at = is_flush_place at
+stands_at (call.Reclaim g) at = is_reclaim_place at

@@ -7,6 +7,7 @@ ghost use Rattle.life_table.specs.declared.types.Call.TheVariants as Call;
 ghost use Rattle.life_table.specs.declared.types.Reply.TheVariants as Reply;
 ghost use Rattle.life_table.specs.declared.types.Event.{Event};
 ghost use Rattle.life_table.specs.declared.table.Table.{Table};
+ghost use Rattle.life_table.specs.History.{LegalHistory};
 ghost use Rattle.slot_words.specs.declared.sight.Sight.TheVariants as Sight;
 ghost use Rattle.slot_words.specs.Steps.{sight_of};
 ghost use Rattle.actor_world.specs.declared.memory.Place.{Place};
@@ -22,7 +23,10 @@ ghost use Rattle.actor_world.specs.Invariant.{Invariant};
 ghost use Rattle.actor_world.specs.Mounted.{IsMounted};
 
 use disk_model::Disk;
-use life_table::{changes_pass_over_holds, recovery_frees_once};
+use life_table::{
+    changes_pass_over_holds, each_call_has_one_reply, holders_have_rows, recovery_frees_once,
+    rows_are_within_limits, tables_stay_well_formed,
+};
 
 /// What a commit is told of: whether it encodes the change from one history to the next. What is proved of the bytes of
 /// a commit fills it in.
@@ -77,3 +81,15 @@ pub fn holders_never_wait()
     ensures group { (at : Place) → lies_in_group at ≡ true → (takes_group at ≡ false) × (takes_log at ≡ false) }
     ensures log { (at : Place) → lies_in_log at ≡ true → (takes_group at ≡ false) × (takes_log at ≡ false) }
 {}
+
+/// A law: in a world that meets the invariant each step leaves a legal history: what it answers or frees is legal at the
+/// table of that moment, and whoever calls on a key holds it.
+pub fn steps_leave_a_legal_history<D: Disk, T: Tells>()
+    ensures { (face : DiskFace D) (start : Table) (a : ℕ) (old new : World D) → Invariant T.tells start old → Step face T.tells a old new
+        → LegalHistory start new.history.entries new.history.table }
+{
+    each_call_has_one_reply();
+    tables_stay_well_formed();
+    rows_are_within_limits();
+    holders_have_rows();
+}

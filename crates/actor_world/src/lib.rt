@@ -8,7 +8,7 @@ mod rows;
 
 pub use laws::{
     Tells, holders_never_wait, mounted_worlds_are_right, opens_begin_unlocked,
-    steps_append_one_entry, steps_are_of_four_kinds,
+    steps_append_one_entry, steps_are_of_four_kinds, steps_leave_a_legal_history,
 };
 pub use memory::{Actor, Doing, GroupCache, Memory, Place, Residence, Slot};
 pub use rows::rows_run;
