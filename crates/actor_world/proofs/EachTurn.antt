@@ -214,7 +214,7 @@ some_of P None x all is = absurd (none-some x is)
 some_of P (Some y) x all is = subst P (same_Some y x is) all
 
 -- an actor in a call is one of the actors
-in_list : (m : Memory) (a : ℕ) (d : Doing) → (actor_at m a).doing ≡ Some d → a < length m.actors
+pub in_list : (m : Memory) (a : ℕ) (d : Doing) → (actor_at m a).doing ≡ Some d → a < length m.actors
 in_list m a d inside =
     elim (cases_lt a (length m.actors)) [
       | inl low ↦ low

@@ -14,6 +14,7 @@ mod RoomTurns
 mod Sights
 mod Slots
 mod StepKinds
+mod StepTurns
 mod Turns
 mod TurnsFound
 mod Waits

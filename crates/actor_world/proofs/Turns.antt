@@ -1,4 +1,4 @@
--- The ways in which a step of a group goes, each with what it finds.
+-- The ways in which a step goes, each with what it finds.
 use Rattle.std.proofs.Common.{◌≡◌, ◌<◌, ◌≤◌, ◌+◌, ◌-◌, ◌%◌, ◌/◌, ℕ, Bool, true, false, List, [], ◌∷◌, Option, None, Some, IsSomeAnd, length, slice_index_or, slice_set, refl, ap}
 use Rattle.life_limits.specs.declared.TheConstants.{GROUP_NUMBERS, MAX_PINS}
 use Rattle.life_table.specs.declared.key.Key.{Key}
@@ -22,7 +22,7 @@ use Rattle.actor_world.specs.declared.memory.Residence.TheVariants.{Absent}
 use Rattle.actor_world.specs.declared.memory.Actor.{Actor}
 use Rattle.actor_world.specs.declared.memory.Memory.{Memory}
 use Rattle.actor_world.specs.Caches.{actor_at, brought, cache_at, cached_word, clean_of, copy_all, is_of_geometry, locked, make_dirty, moved_to, ended, idle_actor, slot_at, unlocked, with_actor, with_slot}
-use Rattle.actor_world.specs.Moves.{Move, group_of_call, links_of, makes_unlinked, place_after_change, release_queue, rows_to_free, sets_mark, with_inodes, with_rows_to_free}
+use Rattle.actor_world.specs.Moves.{Move, group_of_call, links_of, makes_unlinked, place_after_change, release_queue, rows_to_free, sets_mark, stands_at, with_inodes, with_rows_to_free}
 use Rattle.actor_world.specs.Words.{InstallDue, KillDue, MarkDue}
 use Rattle.actor_world.proofs.LiveWords.{Opened}
 
@@ -76,6 +76,12 @@ room_group (call.Create g) = Some g
 room_group (call.Tmpfile g) = Some g
 room_group (call.Grow key count) = Some (group_number key)
 room_group _ = None
+
+-- whether a call is answered by the log
+abbrev pub is_log_call : Call → Bool
+is_log_call call.Sync = true
+is_log_call call.Home = true
+is_log_call _ = false
 
 -- What an actor's step does: the call and the place, and the queue before; what happens; where the call goes on, if it does;
 -- the queue after; and the memory after, but for the actor itself.
@@ -174,6 +180,10 @@ pub data Turn (t : Table) (m : Memory) (a : ℕ) : Call → Place → List Key �
       → Turn t m a (call.Reclaim g) (place.Retire number others) q None (Some (with_inodes others)) q m
   ends_reclaim : {q : List Key} → (g : ℕ)
       → Turn t m a (call.Reclaim g) place.End q (Some (Called (call.Reclaim g) reply.Done)) None q (unlocked g m)
+  goes_on : {q : List Key} → (made : Call) → (at : Place) → (next : Place) → is_log_call made ≡ true → stands_at made at ≡ true → stands_at made next ≡ true
+      → Turn t m a made at q None (Some next) q m
+  is_answered : {q : List Key} → (made : Call) → (at : Place) → (answer : Reply) → is_log_call made ≡ true → stands_at made at ≡ true → Permits t made answer
+      → Turn t m a made at q (Some (Called made answer)) None q m
 
 -- the actor after it
 abbrev pub after_turn : Call → ℕ → Option Place → List Key → Actor

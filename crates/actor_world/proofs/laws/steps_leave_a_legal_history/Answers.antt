@@ -1,12 +1,17 @@
-use Rattle.actor_world.proofs.LegalSteps.{step_legal}
+use Rattle.life_table.specs.History.{LegalHistory}
+use Rattle.actor_world.proofs.LegalSteps.{legal_kept}
+use Rattle.actor_world.proofs.StepTurns.{by_turn}
 use Rattle.actor_world.proofs.TurnsFound.{Laws}
+use Rattle.actor_world.proofs.Within.{within}
 use Rattle.actor_world.proofs.laws.steps_leave_a_legal_history.Goals as goal
 
 pub returns : goal.returns
 returns g c = λ face start a old new inv step.
-    step_legal (record {
+    by_turn (record {
       computed = c.each_call_has_one_reply.ensures.computed;
       history = c.tables_stay_well_formed.ensures.history;
       limits = c.rows_are_within_limits.ensures.limits;
       held = c.holders_have_rows.ensures;
-    }) face g.T.Tells.tells start a old new inv step
+    }) face g.T.Tells.tells start a old new (λ h m. LegalHistory start h.entries h.table) (within g.T.Tells.tells start old inv) step
+    (λ made at begin q later event next memory turn.
+      legal_kept start old.history old.memory a made at begin q later event next memory turn.inv turn.right.held turn.turn)
