@@ -1,4 +1,5 @@
 mod EachTurn
+mod Effects
 mod Geometry
 mod HeldWords
 mod Holding
@@ -6,11 +7,13 @@ mod HouseTurns
 mod LegalSteps
 mod Lists
 mod LiveWords
+mod Locks
 mod Looks
 mod Mounted
 mod OpenSteps
 mod OpenTurns
 mod RoomTurns
+mod ShapeSteps
 mod Sights
 mod Slots
 mod StepKinds

@@ -52,7 +52,7 @@ slot_same m number slot has =
     ap (λ (cache : GroupCache). slice_index_or cache.slots (number % GROUP_NUMBERS) first_slot) (cache_same m (number / GROUP_NUMBERS) _ has.group)
     ∙ read_same (cache_at m (number / GROUP_NUMBERS)).slots (number % GROUP_NUMBERS) slot first_slot has.slot
 
-same_number : (a b : ℕ) → a / GROUP_NUMBERS ≡ b / GROUP_NUMBERS → a % GROUP_NUMBERS ≡ b % GROUP_NUMBERS → a ≡ b
+pub same_number : (a b : ℕ) → a / GROUP_NUMBERS ≡ b / GROUP_NUMBERS → a % GROUP_NUMBERS ≡ b % GROUP_NUMBERS → a ≡ b
 same_number a b groups aginos = omega arith
 
 -- what a look at a group's cache finds after a slot was changed

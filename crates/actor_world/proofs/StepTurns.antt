@@ -113,19 +113,19 @@ group_step laws tells start a d old new inv inside step =
     }
 
 -- a step of a sync or a home, by its answer
-log_step : {D : Type 0} (a : ℕ) (d : Doing) (made : Call) (answer : Option Reply) (next : Place) (old new : World D) → d.call ≡ made → is_log_call made ≡ true
-    → stands_at made d.place ≡ true → stands_at made next ≡ true → IfSome answer (Permits old.history.table made)
-    → IsLogTurn a d made answer next old new → Stepped a d old.history new.history old.memory new.memory
-log_step a d made None next old new is log here there permits turn = record {
+log_step : {D : Type 0} (a : ℕ) (d : Doing) (made : Call) (answer : Option Reply) (onward : Place) (old new : World D) → d.call ≡ made → is_log_call made ≡ true
+    → stands_at made d.place ≡ true → stands_at made onward ≡ true → IfSome answer (Permits old.history.table made)
+    → IsLogTurn a d made answer onward old new → Stepped a d old.history new.history old.memory new.memory
+log_step a d made None onward old new is log here there permits turn = record {
   event = None;
-  next = Some next;
+  next = Some onward;
   later = (actor_at old.memory a).queue;
   memory = old.memory;
-  turn = goes_on d.call d.place next (subst (λ c. is_log_call c ≡ true) (sym is) log) (subst (λ c. stands_at c d.place ≡ true) (sym is) here) (subst (λ c. stands_at c next ≡ true) (sym is) there);
+  turn = goes_on d.call d.place onward (subst (λ c. is_log_call c ≡ true) (sym is) log) (subst (λ c. stands_at c d.place ≡ true) (sym is) here) (subst (λ c. stands_at c onward ≡ true) (sym is) there);
   history_is = turn.history;
   memory_is = turn.memory;
 }
-log_step a d made (Some answer) next old new is log here there permits turn = record {
+log_step a d made (Some answer) onward old new is log here there permits turn = record {
   event = Some (Called d.call answer);
   next = None;
   later = (actor_at old.memory a).queue;

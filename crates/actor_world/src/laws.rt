@@ -14,13 +14,18 @@ ghost use Rattle.actor_world.specs.declared.memory.Place.{Place};
 ghost use Rattle.actor_world.specs.declared.memory.Place.TheVariants as place;
 ghost use Rattle.actor_world.specs.declared.memory.Doing.{Doing};
 ghost use Rattle.actor_world.specs.declared.memory.Memory.{Memory};
-ghost use Rattle.actor_world.specs.Caches.{moved_to, cached_word, ended, is_of_geometry};
+ghost use Rattle.actor_world.specs.declared.memory.Residence.TheVariants.{Absent};
+ghost use Rattle.actor_world.specs.Caches.{moved_to, cached_word, ended, is_of_geometry, slot_at};
 ghost use Rattle.actor_world.specs.Moves.{answers, open_move, pinned, silent, lies_in_group, lies_in_log, takes_group, takes_log, waits_in_group};
 ghost use Rattle.actor_world.specs.World.{History, World, told_if};
 ghost use Rattle.actor_world.specs.Steps.{DiskFace, Step};
 ghost use Rattle.actor_world.specs.Kinds.{IsLogKind};
-ghost use Rattle.actor_world.specs.Invariant.{Invariant};
+ghost use Rattle.actor_world.specs.Licence.{Interval};
+ghost use Rattle.actor_world.specs.Invariant.{Invariant, IsShaped};
 ghost use Rattle.actor_world.specs.Mounted.{IsMounted};
+ghost use Rattle.std.specs.Prelude.{◌↔◌};
+ghost use Rattle.actor_world.specs.Caches.{actor_at, cache_at};
+ghost use Rattle.actor_world.specs.Invariant.{LiesInGroup};
 
 use disk_model::Disk;
 use life_table::{
@@ -87,6 +92,50 @@ pub fn holders_never_wait()
 pub fn steps_leave_a_legal_history<D: Disk, T: Tells>()
     ensures { (face : DiskFace D) (start : Table) (a : ℕ) (old new : World D) → Invariant T.tells start old → Step face T.tells a old new
         → LegalHistory start new.history.entries new.history.table }
+{
+    each_call_has_one_reply();
+    tables_stay_well_formed();
+    rows_are_within_limits();
+    holders_have_rows();
+}
+
+/// A law: a step leaves as many actors, as many groups and as many slots as there were, and as the table has.
+pub fn steps_keep_the_shape<D: Disk, T: Tells>()
+    ensures { (face : DiskFace D) (start : Table) (a : ℕ) (old new : World D) → Invariant T.tells start old → Step face T.tells a old new
+        → IsShaped new.history.table new.memory }
+{
+    each_call_has_one_reply();
+    tables_stay_well_formed();
+    rows_are_within_limits();
+    holders_have_rows();
+}
+
+/// A law: a step's entry stands behind its call's begin.
+pub fn steps_keep_intervals<D: Disk, T: Tells>()
+    ensures { (face : DiskFace D) (start : Table) (a : ℕ) (old new : World D) → Invariant T.tells start old → Step face T.tells a old new
+        → Interval new.history.entries new.history.froms }
+{
+    each_call_has_one_reply();
+    tables_stay_well_formed();
+    rows_are_within_limits();
+    holders_have_rows();
+}
+
+/// A law: after a step no live word is without an inode in core.
+pub fn steps_keep_live_words_in_core<D: Disk, T: Tells>()
+    ensures { (face : DiskFace D) (start : Table) (a : ℕ) (old new : World D) → Invariant T.tells start old → Step face T.tells a old new
+        → (number : ℕ) → (cached_word new.memory number).live ≡ true → (slot_at new.memory number).inode ≡ Absent → ⊥ }
+{
+    each_call_has_one_reply();
+    tables_stay_well_formed();
+    rows_are_within_limits();
+    holders_have_rows();
+}
+
+/// A law: after a step a group's lock is held exactly by the actor whose place lies in it.
+pub fn steps_keep_group_locks<D: Disk, T: Tells>()
+    ensures { (face : DiskFace D) (start : Table) (a : ℕ) (old new : World D) → Invariant T.tells start old → Step face T.tells a old new
+        → (g b : ℕ) → (cache_at new.memory g).holder ≡ Some b ↔ LiesInGroup g (actor_at new.memory b) }
 {
     each_call_has_one_reply();
     tables_stay_well_formed();

@@ -7,8 +7,8 @@ mod memory;
 mod rows;
 
 pub use laws::{
-    Tells, holders_never_wait, mounted_worlds_are_right, opens_begin_unlocked,
-    steps_append_one_entry, steps_are_of_four_kinds, steps_leave_a_legal_history,
+    Tells, steps_keep_group_locks, holders_never_wait, mounted_worlds_are_right, opens_begin_unlocked,
+    steps_append_one_entry, steps_are_of_four_kinds, steps_keep_intervals, steps_keep_live_words_in_core, steps_keep_the_shape, steps_leave_a_legal_history,
 };
 pub use memory::{Actor, Doing, GroupCache, Memory, Place, Residence, Slot};
 pub use rows::rows_run;

@@ -1,0 +1,18 @@
+use Rattle.std.proofs.Common.{ℕ}
+use Rattle.actor_world.specs.Caches.{slot_at}
+use Rattle.actor_world.proofs.Effects.{IsCore, effect_core, effect_of}
+use Rattle.actor_world.proofs.StepTurns.{by_turn}
+use Rattle.actor_world.proofs.TurnsFound.{Laws}
+use Rattle.actor_world.proofs.Within.{within}
+use Rattle.actor_world.proofs.laws.steps_keep_live_words_in_core.Goals as goal
+
+pub returns : goal.returns
+returns g c = λ face start a old new inv step.
+    by_turn (record {
+      computed = c.each_call_has_one_reply.ensures.computed;
+      history = c.tables_stay_well_formed.ensures.history;
+      limits = c.rows_are_within_limits.ensures.limits;
+      held = c.holders_have_rows.ensures;
+    }) face g.T.Tells.tells start a old new (λ h m. (number : ℕ) → IsCore (slot_at m number)) (within g.T.Tells.tells start old inv) step
+    (λ made at begin q later event next memory turn.
+      effect_core turn.inv.cached (effect_of turn.inv.cached turn.turn))
