@@ -109,18 +109,18 @@ link_turn laws start h m a made key _ begin queue s is group held can permits du
 
 -- what the move of a call that makes room rests on
 room_facts : (start : Table) (h : History) (m : Memory) (a : ℕ) (made : Call) (at : Place) (begin : ℕ) (queue : List Key) → Stands start h m a made at begin queue
-    → (at ≡ place.LockShort → (g : ℕ) → room_group made ≡ Some g → CanLock m g) → RoomFacts h.table m made at
+    → (at ≡ place.LockShort → (g : ℕ) → room_group made ≡ Some g → CanLock m g) → RoomFacts h.table m queue made at
 room_facts start h m a made at begin queue s can = record {
   lock = λ g is here. can here g is;
   free = λ key others here.
       let kept : PlaceKeeps start h.entries h.table m queue (group_of_call queue made) begin made (place.Free key others) =
       subst (λ p. PlaceKeeps start h.entries h.table m queue (group_of_call queue made) begin made p) here s.right.keeps in
-      kept.free.0.0;
+      kept.free.0;
   kill = λ key others here. subst (λ p. DueHolds made h.table m (due_at (first_key queue) made p)) here s.right.due;
 }
 
 grow_turn : Laws → (start : Table) (h : History) (m : Memory) (a : ℕ) (key : Key) (count : ℕ) (at : Place) (begin : ℕ) (queue : List Key) → Stands start h m a (call.Grow key count) at begin queue
-    → RoomFacts h.table m (call.Grow key count) at
+    → RoomFacts h.table m queue (call.Grow key count) at
     → IfSome (grow_move key at a (record { call = call.Grow key count; place = at; «from» = begin }) h.table m) (Turned h.table m a (call.Grow key count) at begin queue)
 grow_turn laws start h m a key count place.Answer begin queue s facts =
     grow_answer h.table m a queue begin s.queue_is key count (reply_of h.table (call.Grow key count))
@@ -134,7 +134,7 @@ group_there start h m inv g low = subst (λ n. g < n) inv.shaped.groups low
 create_turn : Laws → (start : Table) (h : History) (m : Memory) (a : ℕ) (made : Call) (g : ℕ) (at : Place) (begin : ℕ) (queue : List Key) → Stands start h m a made at begin queue
     → maker_group made ≡ Some g → room_group made ≡ Some g → group_of_call queue made ≡ Some g
     → reply_of h.table made ≡ create_reply (lowest_key g (prepared h.table.blocks g (group_at h.table g))) → Permits h.table made (reply_of h.table made)
-    → RoomFacts h.table m made at
+    → RoomFacts h.table m queue made at
     → IfSome (create_move g at a (record { call = made; place = at; «from» = begin }) h.table m) (Turned h.table m a made at begin queue)
 create_turn laws start h m a made g place.Answer begin queue s maker room group reply_is permits facts =
     subst (λ (r : Reply). Turned h.table m a made place.Answer begin queue (answer_create r a (record { call = made; place = place.Answer; «from» = begin }) m)) (sym reply_is)

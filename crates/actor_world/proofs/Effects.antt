@@ -59,7 +59,7 @@ effect_of core (marks made key row answer is due) = Puts key.number _ (core key.
 effect_of {m = m} core (installs key dead has) = Puts key.number _ (λ live none. brought_in (slot_at m key.number).inode none)
 effect_of core (installs_made made g key row is due) = Puts key.number _ (λ live none. due.incore none)
 effect_of core (changes made key is permits) = Puts key.number _ dirty_in
-effect_of core (frees_one made g key others is awaits) = Puts key.number _ dirty_in
+effect_of core (frees_one made g key others is group awaits) = Puts key.number _ dirty_in
 effect_of core (grows key count permits) = Puts key.number _ dirty_in
 effect_of core (makes made g key is permits) = Puts key.number _ dirty_in
 effect_of core (frees_head key keys awaits) = Puts key.number _ dirty_in

@@ -39,7 +39,7 @@ legal_push first entries t u entry legal happens by = record {
 
 -- ---- holds
 
-count_push : (p : Entry → Bool) (entries : List Entry) (entry : Entry) → count_by p (entries ++ entry ∷ []) ≡ count_by p entries + (if p entry then 1 else 0)
+pub count_push : (p : Entry → Bool) (entries : List Entry) (entry : Entry) → count_by p (entries ++ entry ∷ []) ≡ count_by p entries + (if p entry then 1 else 0)
 count_push p entries entry = sum_by-append (λ (e : Entry). if p e then 1 else 0) entries (entry ∷ []) ∙ ap (λ n. count_by p entries + n) (omega arith)
 
 -- an entry of somebody else

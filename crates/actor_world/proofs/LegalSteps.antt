@@ -71,7 +71,7 @@ turn_happens {t = t} (unpins key held) = (by_row t key (call.CloseKey key) reply
 turn_happens (reads key answer can permits) = (permits, refl)
 turn_happens (refuses made key answer is permits none) = (permits, refl)
 turn_happens (changes made key is permits) = (permits, refl)
-turn_happens (frees_one made g key others is awaits) = (awaits, refl)
+turn_happens (frees_one made g key others is group awaits) = (awaits, refl)
 turn_happens (grow_refuses key count answer permits none) = (permits, refl)
 turn_happens (grows key count permits) = (permits, refl)
 turn_happens (makes made g key is permits) = (permits, refl)
@@ -88,7 +88,7 @@ turn_happens (is_answered _ at answer is stands permits) = absurd (false≢true 
 -- an entry of a call is made by an actor that has the call's hold
 pub turn_by : {t : Table} {m : Memory} {a : ℕ} {made : Call} {at : Place} {q later : List Key} {event : Event} {next : Option Place} {memory : Memory}
     → Turn t m a made at q (Some event) next later memory → (entries : List Entry) → IsHeld entries a (key_of made) → IsByHolder entries a event
-turn_by (frees_one made g key others is awaits) entries held = tt
+turn_by (frees_one made g key others is group awaits) entries held = tt
 turn_by (frees_head key keys awaits) entries held = tt
 turn_by (load_crowded key row is full) entries held = held
 turn_by (load_stale key is) entries held = held

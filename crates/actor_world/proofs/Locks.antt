@@ -34,7 +34,7 @@ abbrev pub lock_of : Option Place → Call → List Key → Option ℕ
 lock_of None made q = None
 lock_of (Some at) made q = lock_in (lies_in_group at) (group_of_call q made)
 
-changer_group : (made : Call) (key : Key) (q : List Key) → changer_key made ≡ Some key → group_of_call q made ≡ Some (group_number key)
+pub changer_group : (made : Call) (key : Key) (q : List Key) → changer_key made ≡ Some key → group_of_call q made ≡ Some (group_number key)
 changer_group (call.Link other) key q is = ap (λ k. Some (group_number k)) (same_Some other key is)
 changer_group (call.Unlink other) key q is = ap (λ k. Some (group_number k)) (same_Some other key is)
 changer_group (call.Cut other count) key q is = ap (λ k. Some (group_number k)) (same_Some other key is)
@@ -128,7 +128,7 @@ lock_turn {m = m} (unpins key held) = Keeps refl (λ h. holder_slot m key.number
 lock_turn {m = m} (marks made key row answer is due) = Keeps refl (λ h. holder_slot m key.number h _)
 lock_turn {m = m} (installs_made made g key row is due) = Keeps refl (λ h. holder_slot m key.number h _)
 lock_turn {t = t} {m = m} {q = q} (changes made key is permits) = Keeps (lock_kept _ _ _ (change_lies made _ _) refl) (λ h. holder_slot m key.number h _)
-lock_turn {m = m} (frees_one made g key others is awaits) = Keeps refl (λ h. holder_slot m key.number h _)
+lock_turn {m = m} (frees_one made g key others is group awaits) = Keeps refl (λ h. holder_slot m key.number h _)
 lock_turn {m = m} (grows key count permits) = Keeps refl (λ h. holder_slot m key.number h _)
 lock_turn {m = m} (makes made g key is permits) = Keeps refl (λ h. holder_slot m key.number h _)
 lock_turn {m = m} (frees_head key keys awaits) = Keeps refl (λ h. holder_slot m key.number h _)

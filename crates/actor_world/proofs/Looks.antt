@@ -57,13 +57,13 @@ inode_in_other (chunk ∷ chunks) agino other new apart =
     ] refl
 
 -- a group of the table that was changed
-group_same : (t : Table) (g : ℕ) (group : Group) → g < length t.groups → group_at (with_group t g group) g ≡ group
+pub group_same : (t : Table) (g : ℕ) (group : Group) → g < length t.groups → group_at (with_group t g group) g ≡ group
 group_same t g group there = read_same t.groups g group [] there
 
 pub group_other : (t : Table) (g h : ℕ) (group : Group) → h ≢ g → group_at (with_group t g group) h ≡ group_at t h
 group_other t g h group apart = read_other t.groups g h group [] apart
 
-group_past : (t : Table) (g : ℕ) → length t.groups ≤ g → group_at t g ≡ []
+pub group_past : (t : Table) (g : ℕ) → length t.groups ≤ g → group_at t g ≡ []
 group_past t g high = read_past t.groups g [] high
 
 -- a number with an inode is in a group of the table

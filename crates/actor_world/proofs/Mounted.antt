@@ -191,7 +191,7 @@ mounted_is_right none rows tells start w m =
       });
       commits = m.commits;
       job = record {
-        job = subst (λ (holder : Option ℕ). JobOfHolder (state_of w.store) w.history w.memory w.first_commit w.store.job holder) (sym m.holder) m.job;
+        job = subst (λ (holder : Option ℕ). JobOfHolder (state_of w.store) w.history w.memory w.first_commit w.store.job holder) (sym m.holder) (m.job, m.rest);
         covered = λ i a n made at. absurd (no_answer MAX_ACTORS m.keys i a made _ (entry_at i _ at));
       };
     }

@@ -88,16 +88,18 @@ kill_turn t m a queue begin queue_is made g key others is due =
     (goes _ _ _ (kills made g key others is due) queue_is)
 
 -- what is so of a call's place under its lock, as far as its moves look at it
-pub record RoomFacts (t : Table) (m : Memory) (made : Call) (at : Place) : Type 0 where
+pub record RoomFacts (t : Table) (m : Memory) (queue : List Key) (made : Call) (at : Place) : Type 0 where
   pub lock : (g : ℕ) → room_group made ≡ Some g → at ≡ place.LockShort → CanLock m g
-  pub free : (key : Key) (others : List Key) → at ≡ place.Free key others → IsSomeAnd (row_of t key) Awaits
+  pub free : (key : Key) (others : List Key) → at ≡ place.Free key others → IsSomeAnd (row_of t key) Awaits × (Some (group_number key) ≡ group_of_call queue made)
   pub kill : (key : Key) (others : List Key) → at ≡ place.Kill key others → KillDue t m key
 
 pub room_turn : (t : Table) (m : Memory) (a : ℕ) (queue : List Key) (begin : ℕ) → (actor_at m a).queue ≡ queue → (made : Call) (g : ℕ) → room_group made ≡ Some g
-    → group_of_call queue made ≡ Some g → (at : Place) → RoomFacts t m made at
+    → group_of_call queue made ≡ Some g → (at : Place) → RoomFacts t m queue made at
     → IfSome (room_move g at a (record { call = made; place = at; «from» = begin }) t m) (Turned t m a made at begin queue)
 room_turn t m a queue begin queue_is made g is group place.LockShort facts = goes _ _ _ (locks_short made g is (facts.lock g is refl)) queue_is
-room_turn t m a queue begin queue_is made g is group (place.Free key others) facts = goes _ _ _ (frees_one made g key others is (facts.free key others refl)) queue_is
+room_turn t m a queue begin queue_is made g is group (place.Free key others) facts = 
+    let free = facts.free key others refl in
+    goes _ _ _ (frees_one made g key others is (same_Some (group_number key) g (free.1 ∙ group)) free.0) queue_is
 room_turn t m a queue begin queue_is made g is group (place.Kill key others) facts = kill_turn t m a queue begin queue_is made g key others is (facts.kill key others refl)
 room_turn t m a queue begin queue_is made g is group (place.Leave answer) facts = ends _ _ (leaves made answer g group) queue_is
 room_turn t m a queue begin queue_is made g is group _ facts = tt

@@ -98,7 +98,7 @@ pub record Stepped (a : ℕ) (d : Doing) (old new : History) (before after : Mem
   pub history_is : new ≡ told_if a d.«from» event old
   pub memory_is : after ≡ with_actor a (after_turn d.call d.«from» next later) memory
 
-group_step : Laws → {D : Type 0} (tells : Telling) (start : Table) (a : ℕ) (d : Doing) (old new : World D) → Within start old.history old.memory
+pub group_step : Laws → {D : Type 0} (tells : Telling) (start : Table) (a : ℕ) (d : Doing) (old new : World D) → Within start old.history old.memory
     → (actor_at old.memory a).doing ≡ Some d → IsGroupStep tells a d old new → Stepped a d old.history new.history old.memory new.memory
 group_step laws tells start a d old new inv inside step =
     let turned = the_turn laws start old.history old.memory inv a d step.move inside step.made in
@@ -177,6 +177,16 @@ pub record TurnOf (start : Table) (h : History) (m : Memory) (a : ℕ) (made : C
   pub right : CallIsRight start h m a q (record { call = made; place = at; «from» = begin })
   pub turn : Turn h.table m a made at q event next later memory
 
+pub turn_from : (start : Table) (h now : History) (m after : Memory) → Within start h m → (a : ℕ) (d : Doing) → (actor_at m a).doing ≡ Some d → (s : Stepped a d h now m after)
+    → TurnOf start h m a d.call d.place d.«from» (actor_at m a).queue s.event s.next s.later s.memory
+turn_from start h now m after inv a d inside s = record {
+  inv = inv;
+  actor_is = ap (λ (o : Option Doing). record { doing = o; queue = (actor_at m a).queue }) inside;
+  low = in_list m a d inside;
+  right = call_of start h m inv a d inside;
+  turn = s.turn;
+}
+
 -- What is so of every turn at a world within the invariant is so of every step.
 pub by_turn : Laws → {D : Type 0} (face : DiskFace D) (tells : Telling) (start : Table) (a : ℕ) (old new : World D) (P : History → Memory → Type 0) → Within start old.history old.memory
     → Step face tells a old new
@@ -186,11 +196,5 @@ pub by_turn : Laws → {D : Type 0} (face : DiskFace D) (tells : Telling) (start
 by_turn laws face tells start a old new P inv step f =
     let s = stepped laws face tells start a old new inv step in
     let d : Doing = step.doing in
-    let one = f d.call d.place d.«from» (actor_at old.memory a).queue s.later s.event s.next s.memory (record {
-      inv = inv;
-      actor_is = ap (λ (o : Option Doing). record { doing = o; queue = (actor_at old.memory a).queue }) step.inside;
-      low = in_list old.memory a d step.inside;
-      right = call_of start old.history old.memory inv a d step.inside;
-      turn = s.turn;
-    }) in
+    let one = f d.call d.place d.«from» (actor_at old.memory a).queue s.later s.event s.next s.memory (turn_from start old.history new.history old.memory new.memory inv a d step.inside s) in
     subst (λ (h : History). P h new.memory) (sym s.history_is) (subst (λ (m : Memory). P (told_if a d.«from» s.event old.history) m) (sym s.memory_is) one)

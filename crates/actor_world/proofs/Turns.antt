@@ -138,7 +138,7 @@ pub data Turn (t : Table) (m : Memory) (a : ℕ) : Call → Place → List Key �
       (with_word key.number (record (cached_word m key.number) { unlinked = sets_mark made }) m)
   locks_short : {q : List Key} → (made : Call) → (g : ℕ) → room_group made ≡ Some g → CanLock m g
       → Turn t m a made place.LockShort q None (Some (with_rows_to_free (rows_to_free made g t))) q (locked a g m)
-  frees_one : {q : List Key} → (made : Call) → (g : ℕ) → (key : Key) → (others : List Key) → room_group made ≡ Some g → IsSomeAnd (row_of t key) Awaits
+  frees_one : {q : List Key} → (made : Call) → (g : ℕ) → (key : Key) → (others : List Key) → room_group made ≡ Some g → group_number key ≡ g → IsSomeAnd (row_of t key) Awaits
       → Turn t m a made (place.Free key others) q (Some (Freed key)) (Some (place.Kill key others)) q (make_dirty key.number m)
   kills : {q : List Key} → (made : Call) → (g : ℕ) → (key : Key) → (others : List Key) → room_group made ≡ Some g → KillDue t m key
       → Turn t m a made (place.Kill key others) q None (Some (with_rows_to_free others)) q

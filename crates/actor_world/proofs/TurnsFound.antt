@@ -106,7 +106,7 @@ dead_row t m key row is right dead =
     record { row = row; row_is = is; links = of_row.links; opens = of_row.opens; dead = dead }
 
 -- what a live word of a key with a row says, where it is right
-live_row : (t : Table) (m : Memory) (key : Key) (row : Row) → row_of t key ≡ Some row → WordSays t (cached_word m key.number) key.number
+pub live_row : (t : Table) (m : Memory) (key : Key) (row : Row) → row_of t key ≡ Some row → WordSays t (cached_word m key.number) key.number
     → (cached_word m key.number).live ≡ true → ((cached_word m key.number).generation ≡ key.generation) × LiveSays (cached_word m key.number) row
 live_row t m key row is right live =
     let some = the_some (LiveSays (cached_word m key.number)) _ (subst (λ b. says b t (cached_word m key.number) key.number) live right) in

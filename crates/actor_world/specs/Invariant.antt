@@ -5,6 +5,8 @@ use Rattle.life_limits.specs.declared.TheConstants.{BLOCK_SECTORS, GROUP_NUMBERS
 use Rattle.log_record.specs.declared.image.Commit.{Commit}
 use Rattle.log_store.specs.declared.store.Job.{Job}
 use Rattle.log_store.specs.declared.store.Job.TheVariants as job
+use Rattle.log_store.specs.declared.store.Stage.{Stage}
+use Rattle.log_store.specs.declared.store.Stage.TheVariants.{Cover, Down, Free, Half, Record}
 use Rattle.log_store.specs.State.{State, state_of}
 use Rattle.log_store.specs.Outcome.{down_count, goal_of}
 use Rattle.life_table.specs.declared.key.Key.{Key}
@@ -261,13 +263,25 @@ pub record CommitsAreRight {D : Type 0} (tells : Telling) (start : Table) (w : W
   pub count : length durable ≡ durable_changes w.first_commit (state_of w.store)
   pub tell : CommitsOf tells (beginning_of start) w.history.entries w.history.froms (durable ++ (state_of w.store).list ++ w.queue)
 
+-- a record that is being written takes no more commits than wait
+abbrev pub TakenFits : Stage → State → Type 0
+TakenFits Half s = s.taken ≤ length s.list
+TakenFits Record s = s.taken ≤ length s.list
+TakenFits _ s = ⊤
+
+-- a store without a job has nothing in flight
+abbrev pub IsAtRest : Stage → Type 0
+IsAtRest Free = ⊤
+IsAtRest (Down fault) = ⊤
+IsAtRest _ = ⊥
+
 -- what is so of the store's job at a place of the log's holder: at a sync it is a force, and reaches all changes from
 -- before the call; at a home it is one
 abbrev pub JobAt : State → ℕ → List Entry → Job → ℕ → Place → Type 0
 JobAt s first_commit entries going begin place.Force =
-    (goal_of going ≡ job.Force) × (0 < length s.list) × (s.taken ≤ length s.list)
+    (goal_of going ≡ job.Force) × (0 < length s.list) × TakenFits s.stage s
     × (length (changes (take begin entries)) ≤ durable_changes first_commit s + length s.list)
-JobAt s first_commit entries going begin place.WriteHome = goal_of going ≡ job.Home
+JobAt s first_commit entries going begin place.WriteHome = (goal_of going ≡ job.Home) × TakenFits s.stage s
 JobAt s first_commit entries going begin _ = ⊤
 
 abbrev pub JobOfDoing : State → ℕ → List Entry → Job → Option Doing → Type 0
@@ -275,7 +289,7 @@ JobOfDoing s first_commit entries going None = ⊤
 JobOfDoing s first_commit entries going (Some d) = JobAt s first_commit entries going d.«from» d.place
 
 abbrev pub JobOfHolder : State → History → Memory → ℕ → Job → Option ℕ → Type 0
-JobOfHolder s h m first_commit going None = going ≡ job.Idle
+JobOfHolder s h m first_commit going None = (going ≡ job.Idle) × IsAtRest s.stage
 JobOfHolder s h m first_commit going (Some a) = (down_count s.stage ≡ None) × JobOfDoing s first_commit h.entries going (actor_at m a).doing
 
 -- The store has a job exactly where the holder of its lock is at one; and no sync was answered more than is durable.

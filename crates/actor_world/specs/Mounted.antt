@@ -3,6 +3,7 @@ use Rattle.std.specs.Prelude.{◌≡◌, ◌+◌, ◌*◌, ℕ, false, List, [],
 use Rattle.std.specs.List.{AllByRecursion}
 use Rattle.life_limits.specs.declared.TheConstants.{BLOCK_SECTORS, MAX_ACTORS}
 use Rattle.log_store.specs.declared.store.Job.TheVariants as job
+use Rattle.log_store.specs.State.{state_of}
 use Rattle.life_table.specs.declared.key.Key.{Key}
 use Rattle.life_table.specs.declared.table.Table.{Table}
 use Rattle.life_table.specs.History.{Leads, closed, frees_of, recovered}
@@ -12,7 +13,7 @@ use Rattle.actor_world.specs.declared.memory.Slot.{Slot}
 use Rattle.actor_world.specs.Caches.{idle_actor}
 use Rattle.actor_world.specs.World.{World}
 use Rattle.actor_world.specs.Steps.{Telling}
-use Rattle.actor_world.specs.Invariant.{CommitsAreRight}
+use Rattle.actor_world.specs.Invariant.{CommitsAreRight, IsAtRest}
 
 -- the word of a slot is not live
 abbrev pub IsDead : Slot → Type 0
@@ -31,7 +32,7 @@ own_places n (key ∷ keys) = n ∷ own_places (n + 1) keys
 
 -- For the table from which the mount began: what happened are the frees of recovery, each with its own place; they lead to
 -- the recovered table, on which there are no holds; every actor is idle, every lock free, no word live, and no commit
--- waits; and the commits of the frees are right.
+-- waits and none is in flight; and the commits of the frees are right.
 pub record IsMounted {D : Type 0} (tells : Telling) (start : Table) (w : World D) : Type 0 where
   pub table : IsTable start
   pub keys : List Key
@@ -46,4 +47,5 @@ pub record IsMounted {D : Type 0} (tells : Telling) (start : Table) (w : World D
   pub queue : w.queue ≡ []
   pub holder : w.holder ≡ None
   pub job : w.store.job ≡ job.Idle
+  pub rest : IsAtRest (state_of w.store).stage
   pub commits : CommitsAreRight tells start w

@@ -1,8 +1,9 @@
 // Laws of the world's steps.
 
-ghost use Rattle.std.specs.Prelude.{◌≡◌, ℕ, true, false, List, Option, None, Some};
+ghost use Rattle.std.specs.Prelude.{◌≡◌, ◌≤◌, ℕ, true, false, List, Option, None, Some, length};
 ghost use Rattle.log_record.specs.declared.image.Commit.{Commit};
 ghost use Rattle.life_table.specs.declared.key.Key.{Key};
+ghost use Rattle.life_table.specs.declared.types.Call.{Call as AnyCall};
 ghost use Rattle.life_table.specs.declared.types.Call.TheVariants as Call;
 ghost use Rattle.life_table.specs.declared.types.Reply.TheVariants as Reply;
 ghost use Rattle.life_table.specs.declared.types.Event.{Event};
@@ -17,7 +18,7 @@ ghost use Rattle.actor_world.specs.declared.memory.Memory.{Memory};
 ghost use Rattle.actor_world.specs.declared.memory.Residence.TheVariants.{Absent};
 ghost use Rattle.actor_world.specs.Caches.{moved_to, cached_word, ended, is_of_geometry, slot_at};
 ghost use Rattle.actor_world.specs.Moves.{answers, open_move, pinned, silent, lies_in_group, lies_in_log, takes_group, takes_log, waits_in_group};
-ghost use Rattle.actor_world.specs.World.{History, World, told_if};
+ghost use Rattle.actor_world.specs.World.{History, IsBegun, World, told_if};
 ghost use Rattle.actor_world.specs.Steps.{DiskFace, Step};
 ghost use Rattle.actor_world.specs.Kinds.{IsLogKind};
 ghost use Rattle.actor_world.specs.Licence.{Interval};
@@ -26,10 +27,18 @@ ghost use Rattle.actor_world.specs.Mounted.{IsMounted};
 ghost use Rattle.std.specs.Prelude.{◌↔◌};
 ghost use Rattle.actor_world.specs.Caches.{actor_at, cache_at};
 ghost use Rattle.actor_world.specs.Invariant.{LiesInGroup};
+ghost use Rattle.actor_world.specs.Invariant.{WordIsRight};
+ghost use Rattle.actor_world.specs.Invariant.{LiesInLog};
+ghost use Rattle.actor_world.specs.Invariant.{CommitsAreRight};
+ghost use Rattle.life_table.specs.declared.types.Reply.{Reply as AnyReply};
+ghost use Rattle.actor_world.specs.Invariant.{HasEntry, reply_at};
+ghost use Rattle.life_table.specs.History.{IsHeld, key_of};
+ghost use Rattle.actor_world.specs.Moves.{stands_at};
+ghost use Rattle.actor_world.specs.Invariant.{GroupIsThere, key_made};
 
 use disk_model::Disk;
 use life_table::{
-    changes_pass_over_holds, each_call_has_one_reply, holders_have_rows, recovery_frees_once,
+    changes_pass_over_holds, each_call_has_one_reply, holders_have_rows, lowest_keys_are_least, recovery_frees_once,
     rows_are_within_limits, tables_stay_well_formed,
 };
 
@@ -136,6 +145,92 @@ pub fn steps_keep_live_words_in_core<D: Disk, T: Tells>()
 pub fn steps_keep_group_locks<D: Disk, T: Tells>()
     ensures { (face : DiskFace D) (start : Table) (a : ℕ) (old new : World D) → Invariant T.tells start old → Step face T.tells a old new
         → (g b : ℕ) → (cache_at new.memory g).holder ≡ Some b ↔ LiesInGroup g (actor_at new.memory b) }
+{
+    each_call_has_one_reply();
+    tables_stay_well_formed();
+    rows_are_within_limits();
+    holders_have_rows();
+}
+
+/// A law: after a step no word lies but the one that the holder of its group's lock is about to mend.
+pub fn steps_leave_no_word_that_lies<D: Disk, T: Tells>()
+    ensures { (face : DiskFace D) (start : Table) (a : ℕ) (old new : World D) → Invariant T.tells start old → Step face T.tells a old new
+        → (number : ℕ) → WordIsRight new.history.table new.memory number }
+{
+    each_call_has_one_reply();
+    tables_stay_well_formed();
+    rows_are_within_limits();
+    holders_have_rows();
+    lowest_keys_are_least();
+}
+
+/// A law: a call that begins, by an actor without one, in a world that meets the invariant, leaves a world that meets it.
+pub fn calls_begin_in_right_worlds<D: Disk, T: Tells>()
+    ensures { (start : Table) (a : ℕ) (made : AnyCall) (old new : World D) → Invariant T.tells start old → IsBegun a made old new
+        → Invariant T.tells start new }
+{
+    each_call_has_one_reply();
+    tables_stay_well_formed();
+    rows_are_within_limits();
+    holders_have_rows();
+}
+
+/// A law: after a step the log's lock is held exactly by the actor whose place lies in it.
+pub fn steps_keep_the_log_lock<D: Disk, T: Tells>()
+    ensures { (face : DiskFace D) (start : Table) (a : ℕ) (old new : World D) → Invariant T.tells start old → Step face T.tells a old new
+        → (b : ℕ) → new.holder ≡ Some b ↔ LiesInLog (actor_at new.memory b) }
+{
+    each_call_has_one_reply();
+    tables_stay_well_formed();
+    rows_are_within_limits();
+    holders_have_rows();
+}
+
+/// A law: after a step the commits of the store's list and then those of the queue tell the changes that are not durable,
+/// one each, in order.
+pub fn steps_keep_the_commits<D: Disk, T: Tells>()
+    ensures { (face : DiskFace D) (start : Table) (a : ℕ) (old new : World D) → Invariant T.tells start old → Step face T.tells a old new
+        → CommitsAreRight T.tells start new }
+{}
+
+/// A law: after a step each call in progress has one entry, with the reply of its place, where its place has one, and else
+/// none.
+pub fn steps_keep_entries_of_calls<D: Disk, T: Tells>()
+    ensures { (face : DiskFace D) (start : Table) (a : ℕ) (old new : World D) → Invariant T.tells start old → Step face T.tells a old new
+        → (b : ℕ) (d : Doing) → (actor_at new.memory b).doing ≡ Some d
+        → HasEntry new.history.entries new.history.froms b d.«from» d.call (reply_at d.place) }
+{
+    each_call_has_one_reply();
+    tables_stay_well_formed();
+    rows_are_within_limits();
+    holders_have_rows();
+}
+
+/// A law: a call that a step ends has exactly one entry, and the reply of that is its reply.
+pub fn ended_calls_have_one_entry<D: Disk, T: Tells>()
+    ensures { (face : DiskFace D) (start : Table) (a : ℕ) (old new : World D) → Invariant T.tells start old
+        → (step : Step face T.tells a old new) → (actor_at new.memory a).doing ≡ None
+        → (answer : AnyReply) × HasEntry new.history.entries new.history.froms a step.doing.«from» step.doing.call (Some answer) }
+{
+    each_call_has_one_reply();
+    tables_stay_well_formed();
+    rows_are_within_limits();
+    holders_have_rows();
+}
+
+/// A law: after a step each call in progress began before now, stands at one of its places, in a group that is there, and
+/// holds the key that it is made on and the key that it made.
+pub fn steps_keep_calls_at_their_places<D: Disk, T: Tells>()
+    ensures begun { (face : DiskFace D) (start : Table) (a : ℕ) (old new : World D) → Invariant T.tells start old → Step face T.tells a old new
+        → (b : ℕ) (d : Doing) → (actor_at new.memory b).doing ≡ Some d → d.«from» ≤ length new.history.entries }
+    ensures stands { (face : DiskFace D) (start : Table) (a : ℕ) (old new : World D) → Invariant T.tells start old → Step face T.tells a old new
+        → (b : ℕ) (d : Doing) → (actor_at new.memory b).doing ≡ Some d → stands_at d.call d.place ≡ true }
+    ensures group { (face : DiskFace D) (start : Table) (a : ℕ) (old new : World D) → Invariant T.tells start old → Step face T.tells a old new
+        → (b : ℕ) (d : Doing) → (actor_at new.memory b).doing ≡ Some d → GroupIsThere new.memory (actor_at new.memory b).queue d.call d.place }
+    ensures held { (face : DiskFace D) (start : Table) (a : ℕ) (old new : World D) → Invariant T.tells start old → Step face T.tells a old new
+        → (b : ℕ) (d : Doing) → (actor_at new.memory b).doing ≡ Some d → IsHeld new.history.entries b (key_of d.call) }
+    ensures made { (face : DiskFace D) (start : Table) (a : ℕ) (old new : World D) → Invariant T.tells start old → Step face T.tells a old new
+        → (b : ℕ) (d : Doing) → (actor_at new.memory b).doing ≡ Some d → IsHeld new.history.entries b (key_made d.place) }
 {
     each_call_has_one_reply();
     tables_stay_well_formed();
