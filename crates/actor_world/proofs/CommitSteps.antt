@@ -173,7 +173,7 @@ advanced_commits face tells start a d made old new inv none fits step =
       ∙ sym (append-nil ((state_of old.store).list ++ old.queue)))
 
 -- the record in flight of a job that goes on fits
-job_fits : {D : Type 0} (tells : Telling) (start : Table) (a : ℕ) (d : Doing) (old : World D) → Invariant tells start old → (actor_at old.memory a).doing ≡ Some d
+pub job_fits : {D : Type 0} (tells : Telling) (start : Table) (a : ℕ) (d : Doing) (old : World D) → Invariant tells start old → (actor_at old.memory a).doing ≡ Some d
     → old.holder ≡ Some a → JobAt (state_of old.store) old.first_commit old.history.entries old.store.job d.«from» d.place
 job_fits tells start a d old inv inside holds =
     let right = subst (λ (o : Option ℕ). JobOfHolder (state_of old.store) old.history old.memory old.first_commit old.store.job o) holds inv.job.job in

@@ -7,6 +7,7 @@ mod Geometry
 mod HeldWords
 mod Holding
 mod HouseTurns
+mod JobSteps
 mod LegalSteps
 mod Lists
 mod LiveWords
@@ -24,6 +25,7 @@ mod Sights
 mod Slots
 mod StepKinds
 mod StepTurns
+mod StoreJobs
 mod StoreMoves
 mod Turns
 mod TurnsFound

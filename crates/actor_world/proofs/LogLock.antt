@@ -110,7 +110,7 @@ no_home call.Home log stands = true≢false log
 no_home _ log stands = false≢true stands
 
 -- a call that the log does not answer never lies in its lock
-not_in_log : (made : Call) (at : Place) → is_log_call made ≡ false → stands_at made at ≡ true → lies_in_log at ≡ true → ⊥
+pub not_in_log : (made : Call) (at : Place) → is_log_call made ≡ false → stands_at made at ≡ true → lies_in_log at ≡ true → ⊥
 not_in_log made place.Force log stands lies = no_force made log stands
 not_in_log made place.WriteHome log stands lies = no_home made log stands
 not_in_log made _ log stands lies = false≢true lies

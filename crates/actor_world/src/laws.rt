@@ -35,6 +35,7 @@ ghost use Rattle.actor_world.specs.Invariant.{HasEntry, reply_at};
 ghost use Rattle.life_table.specs.History.{IsHeld, key_of};
 ghost use Rattle.actor_world.specs.Moves.{stands_at};
 ghost use Rattle.actor_world.specs.Invariant.{GroupIsThere, key_made};
+ghost use Rattle.actor_world.specs.Invariant.{JobIsRight};
 
 use disk_model::Disk;
 use life_table::{
@@ -231,6 +232,18 @@ pub fn steps_keep_calls_at_their_places<D: Disk, T: Tells>()
         → (b : ℕ) (d : Doing) → (actor_at new.memory b).doing ≡ Some d → IsHeld new.history.entries b (key_of d.call) }
     ensures made { (face : DiskFace D) (start : Table) (a : ℕ) (old new : World D) → Invariant T.tells start old → Step face T.tells a old new
         → (b : ℕ) (d : Doing) → (actor_at new.memory b).doing ≡ Some d → IsHeld new.history.entries b (key_made d.place) }
+{
+    each_call_has_one_reply();
+    tables_stay_well_formed();
+    rows_are_within_limits();
+    holders_have_rows();
+}
+
+/// A law: after a step the store has a job exactly where the holder of its lock is at one, a force reaches all changes from
+/// before its call, and no sync was answered more than is durable.
+pub fn steps_keep_the_job<D: Disk, T: Tells>()
+    ensures { (face : DiskFace D) (start : Table) (a : ℕ) (old new : World D) → Invariant T.tells start old → Step face T.tells a old new
+        → JobIsRight new }
 {
     each_call_has_one_reply();
     tables_stay_well_formed();
