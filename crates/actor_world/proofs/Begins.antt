@@ -146,6 +146,7 @@ module _ (laws : Laws) (start : Table) (h : History) (m : Memory) (inv : Within 
       frees = first_frees h a (length h.entries) made;
       keeps = first_keeps start h m (actor_at m a).queue (group_of_call (actor_at m a).queue made) (length h.entries) made;
       due = subst (λ (d : Due). DueHolds made h.table m d) (sym (first_due (first_key (actor_at m a).queue) made)) tt;
+      due_here = λ number is. absurd (none-some number (sym (ap due_number (first_due (first_key (actor_at m a).queue) made)) ∙ is));
     };
   }
 
@@ -290,6 +291,7 @@ doing_moved start h m actors a queue (Some d) right = record {
   frees = right.frees;
   keeps = right.keeps;
   due = due_moved d.call h.table m actors (due_at (first_key queue) d.call d.place) right.due;
+  due_here = right.due_here;
 }
 
 pub actor_moved : (start : Table) (h : History) (m : Memory) (actors : List Actor) (a : ℕ) (actor : Actor) → ActorIsRight start h m a actor

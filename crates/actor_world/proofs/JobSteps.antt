@@ -35,7 +35,7 @@ use Rattle.actor_world.specs.declared.memory.Doing.{Doing}
 use Rattle.actor_world.specs.declared.memory.Actor.{Actor}
 use Rattle.actor_world.specs.declared.memory.Memory.{Memory}
 use Rattle.actor_world.specs.Caches.{actor_at, idle_actor, with_actor}
-use Rattle.actor_world.specs.Moves.{lies_in_log}
+use Rattle.actor_world.specs.Moves.{lies_in_log, is_log_call}
 use Rattle.actor_world.specs.World.{History, World, told, told_if}
 use Rattle.actor_world.specs.Steps.{DiskFace, HomeStep, IsAdvanced, IsGroupStep, IsLogTurn, Step, StepOf, SyncStep, Telling, answered, begun_job, covered_answer, dirty_answer, end_answer, home_answer, or_down, pending_answer, progress_answer, take_answer, taken_all}
 use Rattle.actor_world.specs.Invariant.{CommitOf, CommitsOf, Invariant, IsAtRest, JobAt, JobIsRight, JobOfDoing, JobOfHolder, LiesInLog, TakenFits, beginning_of, durable_changes}
@@ -48,7 +48,7 @@ use Rattle.actor_world.proofs.LogLock.{has_lock, not_in_log}
 use Rattle.actor_world.proofs.StepTurns.{call_of, group_step}
 use Rattle.actor_world.proofs.StoreJobs.{JobSteps, job_steps}
 use Rattle.actor_world.proofs.StoreMoves.{Kept, Landed, Moves, step_moves}
-use Rattle.actor_world.proofs.Turns.{Turn, after_turn, grow_refuses, is_answered, is_log_call, reads, refuses}
+use Rattle.actor_world.proofs.Turns.{Turn, after_turn, grow_refuses, is_answered, reads, refuses}
 use Rattle.actor_world.proofs.TurnsFound.{Laws}
 use Rattle.actor_world.proofs.Within.{Within, within}
 

@@ -19,6 +19,7 @@ mod OpenSteps
 mod OpenTurns
 mod PlaceSteps
 mod Prepares
+mod Progress
 mod RoomTurns
 mod ShapeSteps
 mod Sights

@@ -18,11 +18,11 @@ use Rattle.actor_world.specs.declared.memory.Doing.{Doing}
 use Rattle.actor_world.specs.declared.memory.GroupCache.{GroupCache}
 use Rattle.actor_world.specs.declared.memory.Memory.{Memory}
 use Rattle.actor_world.specs.Caches.{actor_at, cache_at, idle_actor, locked, unlocked, with_actor, with_cache, with_slot}
-use Rattle.actor_world.specs.Moves.{group_of_call, is_mark_due, lies_in_group, lies_in_log, place_after_change, stands_at, with_inodes, with_rows_to_free}
+use Rattle.actor_world.specs.Moves.{group_of_call, is_mark_due, lies_in_group, lies_in_log, place_after_change, stands_at, with_inodes, with_rows_to_free, is_log_call}
 use Rattle.actor_world.specs.Invariant.{LiesInGroup}
 use Rattle.actor_world.proofs.Lists.{read_other, read_same}
 use Rattle.actor_world.proofs.Slots.{cache_other, cache_past, cache_same, holder_slot, with_cache_past}
-use Rattle.actor_world.proofs.Turns.{CanLock, Turn, after_turn, changer_key, changes, copies, ends_flush, ends_reclaim, finds_none, finds_row, frees_head, frees_one, goes_on, grow_refuses, grows, installs, installs_made, is_answered, is_log_call, kills, kills_head, leaves, load_crowded, load_finds, load_pins, load_stale, locked_crowded, locked_installs, locked_pins, locked_stale, locks_change, locks_flush, locks_reclaim, locks_short, maker_group, makes, makes_none, marks, next_empty, next_none, next_row, passes, passes_last, pin_misses, pin_misses_locked, pins, pins_locked, reads, refuses, retires, retires_none, room_group, unpins}
+use Rattle.actor_world.proofs.Turns.{CanLock, Turn, after_turn, changer_key, changes, copies, ends_flush, ends_reclaim, finds_none, finds_row, frees_head, frees_one, goes_on, grow_refuses, grows, installs, installs_made, is_answered, kills, kills_head, leaves, load_crowded, load_finds, load_pins, load_stale, locked_crowded, locked_installs, locked_pins, locked_stale, locks_change, locks_flush, locks_reclaim, locks_short, maker_group, makes, makes_none, marks, next_empty, next_none, next_row, passes, passes_last, pin_misses, pin_misses_locked, pins, pins_locked, reads, refuses, retires, retires_none, room_group, unpins}
 
 -- ---- which lock a call at a place holds
 

@@ -16,7 +16,7 @@ use Rattle.actor_world.specs.declared.memory.Doing.{Doing}
 use Rattle.actor_world.specs.declared.memory.Actor.{Actor}
 use Rattle.actor_world.specs.declared.memory.Memory.{Memory}
 use Rattle.actor_world.specs.Caches.{actor_at, idle_actor, with_actor}
-use Rattle.actor_world.specs.Moves.{lies_in_log, place_after_change, stands_at, with_inodes, with_rows_to_free}
+use Rattle.actor_world.specs.Moves.{lies_in_log, place_after_change, stands_at, with_inodes, with_rows_to_free, is_log_call}
 use Rattle.actor_world.specs.World.{World}
 use Rattle.actor_world.specs.Steps.{DiskFace, HomeStep, IsGroupStep, IsLogTurn, Step, StepOf, SyncStep, Telling}
 use Rattle.actor_world.specs.Invariant.{Invariant, LiesInLog}
@@ -24,7 +24,7 @@ use Rattle.actor_world.proofs.EachTurn.{in_list}
 use Rattle.actor_world.proofs.Effects.{effect_actors, effect_of}
 use Rattle.actor_world.proofs.Lists.{read_other, read_same}
 use Rattle.actor_world.proofs.StepTurns.{Stepped, call_of, group_step}
-use Rattle.actor_world.proofs.Turns.{Turn, after_turn, changer_key, changes, finds_none, finds_row, frees_head, frees_one, goes_on, grow_refuses, grows, installs, installs_made, is_log_call, kills, kills_head, load_finds, load_pins, locked_crowded, locked_installs, locked_pins, locked_stale, locks_change, locks_flush, locks_reclaim, locks_short, maker_group, makes, makes_none, marks, next_none, next_row, passes, pin_misses, pin_misses_locked, pins_locked, reads, refuses, retires, retires_none, room_group}
+use Rattle.actor_world.proofs.Turns.{Turn, after_turn, changer_key, changes, finds_none, finds_row, frees_head, frees_one, goes_on, grow_refuses, grows, installs, installs_made, kills, kills_head, load_finds, load_pins, locked_crowded, locked_installs, locked_pins, locked_stale, locks_change, locks_flush, locks_reclaim, locks_short, maker_group, makes, makes_none, marks, next_none, next_row, passes, pin_misses, pin_misses_locked, pins_locked, reads, refuses, retires, retires_none, room_group}
 use Rattle.actor_world.proofs.TurnsFound.{Laws}
 use Rattle.actor_world.proofs.Within.{Within, within}
 

@@ -21,15 +21,20 @@ use Rattle.actor_world.specs.declared.memory.Doing.{Doing}
 use Rattle.actor_world.specs.declared.memory.Actor.{Actor}
 use Rattle.actor_world.specs.declared.memory.Memory.{Memory}
 use Rattle.actor_world.specs.Caches.{actor_at, idle_actor, is_of_geometry, with_actor}
-use Rattle.actor_world.specs.Moves.{group_of_call, is_mark_due, place_after_change, stands_at, with_inodes, with_rows_to_free}
+use Rattle.actor_world.specs.Moves.{group_of_call, is_mark_due, place_after_change, stands_at, with_inodes, with_rows_to_free, is_log_call}
 use Rattle.actor_world.specs.World.{History, told, told_if}
-use Rattle.actor_world.specs.Invariant.{CallIsRight, GroupIsThere, IsShaped, IsThere, key_made}
+use Rattle.actor_world.specs.Invariant.{CallIsRight, GroupIsThere, IsShaped, IsThere, first_key, key_made}
 use Rattle.actor_world.proofs.Effects.{effect_actors, effect_of, effect_shape}
 use Rattle.actor_world.proofs.Holding.{count_push, held_other}
 use Rattle.actor_world.proofs.Lists.{length-push, read_other, read_same}
 use Rattle.actor_world.proofs.LogLock.{stands_turn}
+use Rattle.actor_world.proofs.Locks.{changer_group, maker_call_group, room_call_group}
+use Rattle.actor_world.proofs.WordTurns.{log_due, mark_key}
+use Rattle.actor_world.proofs.WordsStill.{WordFacts}
+use Rattle.actor_world.specs.Words.{Due, due_at, due_number, nothing}
+use Rattle.life_table.specs.Legal.{Permits}
 use Rattle.actor_world.proofs.StepTurns.{TurnOf, call_of}
-use Rattle.actor_world.proofs.Turns.{Turn, after_turn, changer_key, changes, finds_none, finds_row, frees_head, frees_one, goes_on, grow_refuses, grows, installs, installs_made, is_log_call, kills, kills_head, load_finds, load_pins, locked_crowded, locked_installs, locked_pins, locked_stale, locks_change, locks_flush, locks_reclaim, locks_short, maker_group, makes, makes_none, marks, next_none, next_row, passes, pin_misses, pin_misses_locked, pins_locked, reads, refuses, retires, retires_none, room_group}
+use Rattle.actor_world.proofs.Turns.{Turn, after_turn, changer_key, changes, finds_none, finds_row, frees_head, frees_one, goes_on, grow_refuses, grows, installs, installs_made, kills, kills_head, load_finds, load_pins, locked_crowded, locked_installs, locked_pins, locked_stale, locks_change, locks_flush, locks_reclaim, locks_short, maker_group, makes, makes_none, marks, next_none, next_row, passes, pin_misses, pin_misses_locked, pins_locked, reads, refuses, retires, retires_none, room_group}
 
 -- ---- the group
 
@@ -221,6 +226,49 @@ turn_made {a = a} {event = event} h begin all (retires_none g number others) = n
 turn_made {a = a} {event = event} h begin all (goes_on made at onward is stands stands_next) = nothing_made (told_if a begin event h).entries a _ (log_made made onward is stands_next)
 turn_made h begin all _ = tt
 
+-- ---- what is due
+
+rows_due : (first : Option Key) (made : Call) (keys : List Key) → due_at first made (with_rows_to_free keys) ≡ nothing
+rows_due first made [] = refl
+rows_due first made (key ∷ keys) = refl
+
+inodes_due : (first : Option Key) (made : Call) (numbers : List ℕ) → due_at first made (with_inodes numbers) ≡ nothing
+inodes_due first made [] = refl
+inodes_due first made (number ∷ numbers) = refl
+
+no_due : (due : Due) (number : ℕ) {X : Type 0} → due ≡ nothing → due_number due ≡ Some number → X
+no_due due number none is = absurd (none-some number (sym (ap due_number none) ∙ is))
+
+change_due : (first : Option Key) (made : Call) (key : Key) (q : List Key) (links number : ℕ) → changer_key made ≡ Some key → due_number (due_at first made (place_after_change made reply.Done links)) ≡ Some number
+    → group_of_call q made ≡ Some (number / GROUP_NUMBERS)
+change_due first made key q links number is =
+    elim (is_mark_due made reply.Done links) as (λ b. due_number (due_at first made (if b then place.Mark reply.Done else place.Leave reply.Done)) ≡ Some number → group_of_call q made ≡ Some (number / GROUP_NUMBERS)) [
+      | true ↦ λ due. changer_group made key q is ∙ ap (λ n. Some (n / GROUP_NUMBERS)) (mark_key made key number is due)
+      | false ↦ λ due. absurd (none-some number due)
+    ]
+
+maker_due : (t : Table) (m : Memory) → WordFacts t m → (made : Call) (g : ℕ) (key : Key) → maker_group made ≡ Some g → Permits t made (reply.Made key) → Some g ≡ Some (key.number / GROUP_NUMBERS)
+maker_due t m facts (call.Create h) g key is permits = sym is ∙ ap (λ n. Some n) (sym (facts.made h key 1 permits (facts.legal (call.Create h) (reply.Made key) permits)).group)
+maker_due t m facts (call.Tmpfile h) g key is permits = sym is ∙ ap (λ n. Some n) (sym (facts.made h key 0 permits (facts.legal (call.Tmpfile h) (reply.Made key) permits)).group)
+maker_due t m facts _ g key is permits = absurd (none-some g is)
+
+turn_due : {t : Table} {m : Memory} {a : ℕ} {made : Call} {at : Place} {q later : List Key} {event : Option Event} {onward : Place} {memory : Memory}
+    → WordFacts t m → Turn t m a made at q event (Some onward) later memory → (number : ℕ) → due_number (due_at (first_key later) made onward) ≡ Some number
+    → group_of_call later made ≡ Some (number / GROUP_NUMBERS)
+turn_due {t = t} {m = m} {later = later} facts (makes made g key is permits) number due =
+    maker_call_group made g later is ∙ maker_due t m facts made g key is permits ∙ ap (λ n. Some (n / GROUP_NUMBERS)) (same_Some key.number number due)
+turn_due {later = later} facts (frees_one made g key others is group awaits) number due =
+    room_call_group made g later is ∙ ap (λ n. Some n) (sym group) ∙ ap (λ n. Some (n / GROUP_NUMBERS)) (same_Some key.number number due)
+turn_due facts (frees_head key keys awaits) number due = ap (λ n. Some (n / GROUP_NUMBERS)) (same_Some key.number number due)
+turn_due {later = later} facts (changes made key is permits) number due = change_due (first_key later) made key later _ number is due
+turn_due {later = later} facts (locks_short made g is can) number due = no_due _ number (rows_due (first_key later) made _) due
+turn_due {later = later} facts (kills made g key others is kill) number due = no_due _ number (rows_due (first_key later) made others) due
+turn_due {later = later} facts (locks_reclaim g can) number due = no_due _ number (inodes_due (first_key later) (call.Reclaim g) _) due
+turn_due {later = later} facts (retires g n others idle) number due = no_due _ number (inodes_due (first_key later) (call.Reclaim g) others) due
+turn_due {later = later} facts (retires_none g n others) number due = no_due _ number (inodes_due (first_key later) (call.Reclaim g) others) due
+turn_due {later = later} facts (goes_on made at onward is stands stands_next) number due = no_due _ number (log_due (first_key later) made onward is stands_next) due
+turn_due facts _ number due = absurd (none-some number due)
+
 -- ---- steps
 
 -- what is so of where a call in progress stands
@@ -230,6 +278,7 @@ pub record StandsRight (h : History) (m : Memory) (b : ℕ) (queue : List Key) (
   pub group : GroupIsThere m queue d.call d.place
   pub held : IsHeld h.entries b (key_of d.call)
   pub made : IsHeld h.entries b (key_made d.place)
+  pub due_here : (number : ℕ) → due_number (due_at (first_key queue) d.call d.place) ≡ Some number → group_of_call queue d.call ≡ Some (number / GROUP_NUMBERS)
 
 begun_more : (h : History) (a begin n : ℕ) (event : Option Event) → n ≤ length h.entries → n ≤ length (told_if a begin event h).entries
 begun_more h a begin n None below = below
@@ -250,10 +299,10 @@ group_moves m memory q (call.OpenKey key) place.Load same there = tt
 group_moves m memory q made at same there = there_after m memory (group_of_call q made) same there
 
 own_place : (start : Table) (h : History) (m : Memory) (a : ℕ) (made : Call) (at : Place) (begin : ℕ) (q later : List Key) (event : Option Event) (next : Option Place) (memory : Memory)
-    → TurnOf start h m a made at begin q event next later memory → length memory.groups ≡ length m.groups → (d : Doing) → (after_turn made begin next later).doing ≡ Some d
+    → WordFacts h.table m → TurnOf start h m a made at begin q event next later memory → length memory.groups ≡ length m.groups → (d : Doing) → (after_turn made begin next later).doing ≡ Some d
     → StandsRight (told_if a begin event h) (with_actor a (after_turn made begin next later) memory) a (after_turn made begin next later).queue d
-own_place start h m a made at begin q later event None memory turn count d inside = absurd (none-some d inside)
-own_place start h m a made at begin q later event (Some onward) memory turn count d inside =
+own_place start h m a made at begin q later event None memory facts turn count d inside = absurd (none-some d inside)
+own_place start h m a made at begin q later event (Some onward) memory facts turn count d inside =
     let queue_is : (actor_at m a).queue ≡ q = ap (λ (y : Actor). y.queue) turn.actor_is in
     let all = subst (λ (ks : List Key). AllByRecursion (λ (key : Key). group_number key < length m.groups) ks) queue_is (turn.inv.actors a).there in
     subst (λ (y : Doing). StandsRight (told_if a begin event h) (with_actor a (after_turn made begin (Some onward) later) memory) a later y) (same_Some _ d inside) (record {
@@ -262,12 +311,13 @@ own_place start h m a made at begin q later event (Some onward) memory turn coun
       group = to_there memory later made onward (there_after m memory (group_of_call later made) count (turn_there turn.inv.shaped all turn.right.group turn.turn));
       held = own_held event h begin turn.turn (key_of made) turn.right.held;
       made = turn_made h begin turn.inv.legal.held turn.turn;
+      due_here = turn_due facts turn.turn;
     })
 
 pub places_kept : (start : Table) (h : History) (m : Memory) (a : ℕ) (made : Call) (at : Place) (begin : ℕ) (q later : List Key) (event : Option Event) (next : Option Place) (memory : Memory)
-    → TurnOf start h m a made at begin q event next later memory → (b : ℕ) (d : Doing) → (actor_at (with_actor a (after_turn made begin next later) memory) b).doing ≡ Some d
+    → WordFacts h.table m → TurnOf start h m a made at begin q event next later memory → (b : ℕ) (d : Doing) → (actor_at (with_actor a (after_turn made begin next later) memory) b).doing ≡ Some d
     → StandsRight (told_if a begin event h) (with_actor a (after_turn made begin next later) memory) b (actor_at (with_actor a (after_turn made begin next later) memory) b).queue d
-places_kept start h m a made at begin q later event next memory turn b d inside =
+places_kept start h m a made at begin q later event next memory facts turn b d inside =
     let effect = effect_of turn.inv.cached turn.turn in
     let actors = effect_actors effect in
     let count = (effect_shape effect).count in
@@ -278,7 +328,7 @@ places_kept start h m a made at begin q later event next memory turn b d inside 
           let there : actor_at (with_actor a x memory) b ≡ x = ap (λ n. actor_at (with_actor a x memory) n) same ∙ read_same memory.actors a x idle_actor low in
           subst (λ (y : Actor). StandsRight (told_if a begin event h) (with_actor a x memory) b y.queue d) (sym there)
           (subst (λ n. StandsRight (told_if a begin event h) (with_actor a x memory) n x.queue d) (sym same)
-            (own_place start h m a made at begin q later event next memory turn count d (sym (ap (λ (y : Actor). y.doing) there) ∙ inside)))
+            (own_place start h m a made at begin q later event next memory facts turn count d (sym (ap (λ (y : Actor). y.doing) there) ∙ inside)))
       | inr apart ↦
           let there : actor_at (with_actor a x memory) b ≡ actor_at m b = read_other memory.actors a b x idle_actor apart ∙ ap (λ (xs : List Actor). actor_at (record { actors = xs; groups = m.groups }) b) actors in
           let right = call_of start h m turn.inv b d (sym (ap (λ (y : Actor). y.doing) there) ∙ inside) in
@@ -288,5 +338,6 @@ places_kept start h m a made at begin q later event next memory turn b d inside 
             group = group_moves m memory (actor_at m b).queue d.call d.place count right.group;
             held = others_held h a b begin event (key_of d.call) apart right.held;
             made = others_held h a b begin event (key_made d.place) apart right.made;
+            due_here = right.due_here;
           })
     ]

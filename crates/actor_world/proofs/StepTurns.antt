@@ -29,7 +29,7 @@ use Rattle.actor_world.specs.declared.memory.Place.TheVariants as place
 use Rattle.actor_world.specs.declared.memory.Doing.{Doing}
 use Rattle.actor_world.specs.declared.memory.Memory.{Memory}
 use Rattle.actor_world.specs.Caches.{actor_at, with_actor}
-use Rattle.actor_world.specs.Moves.{Move, move_of, stands_at}
+use Rattle.actor_world.specs.Moves.{Move, move_of, stands_at, is_log_call}
 use Rattle.actor_world.specs.World.{History, World, told, told_if}
 use Rattle.actor_world.specs.Steps.{DiskFace, HomeStep, IsAdvanced, IsGroupStep, IsHomeBegun, IsLogTurn, IsTake, Step, StepOf, SyncStep, Telling, answered, dirty_answer, home_answer, or_down, pending_answer, progress_answer, take_answer}
 use Rattle.actor_world.specs.Words.{nothing, due_at}
@@ -37,7 +37,7 @@ use Rattle.actor_world.specs.Invariant.{CallIsRight, DoingIsRight, Invariant, du
 use Rattle.actor_world.proofs.EachTurn.{in_call, in_list, turn_of}
 use Rattle.actor_world.proofs.HeldWords.{held_word}
 use Rattle.actor_world.proofs.Holding.{legal_push}
-use Rattle.actor_world.proofs.Turns.{HeldWord, Turn, Turned, after_turn, goes_on, is_answered, is_log_call, changes, ends_flush, ends_reclaim, finds_none, frees_head, frees_one, grow_refuses, grows, installs, load_crowded, load_stale, locked_crowded, locked_stale, makes, makes_none, next_empty, passes_last, pins, pins_locked, reads, refuses, unpins}
+use Rattle.actor_world.proofs.Turns.{HeldWord, Turn, Turned, after_turn, goes_on, is_answered, changes, ends_flush, ends_reclaim, finds_none, frees_head, frees_one, grow_refuses, grows, installs, load_crowded, load_stale, locked_crowded, locked_stale, makes, makes_none, next_empty, passes_last, pins, pins_locked, reads, refuses, unpins}
 use Rattle.actor_world.proofs.TurnsFound.{Laws}
 use Rattle.actor_world.proofs.Within.{Within, within}
 

@@ -22,7 +22,7 @@ use Rattle.actor_world.specs.declared.memory.Residence.TheVariants.{Absent}
 use Rattle.actor_world.specs.declared.memory.Actor.{Actor}
 use Rattle.actor_world.specs.declared.memory.Memory.{Memory}
 use Rattle.actor_world.specs.Caches.{actor_at, brought, cache_at, cached_word, clean_of, copy_all, is_of_geometry, locked, make_dirty, moved_to, ended, idle_actor, slot_at, unlocked, with_actor, with_slot}
-use Rattle.actor_world.specs.Moves.{Move, group_of_call, links_of, makes_unlinked, place_after_change, release_queue, rows_to_free, sets_mark, stands_at, with_inodes, with_rows_to_free}
+use Rattle.actor_world.specs.Moves.{Move, group_of_call, is_log_call, links_of, makes_unlinked, place_after_change, release_queue, rows_to_free, sets_mark, stands_at, with_inodes, with_rows_to_free}
 use Rattle.actor_world.specs.Words.{InstallDue, KillDue, MarkDue}
 use Rattle.actor_world.proofs.LiveWords.{Opened}
 
@@ -76,12 +76,6 @@ room_group (call.Create g) = Some g
 room_group (call.Tmpfile g) = Some g
 room_group (call.Grow key count) = Some (group_number key)
 room_group _ = None
-
--- whether a call is answered by the log
-abbrev pub is_log_call : Call → Bool
-is_log_call call.Sync = true
-is_log_call call.Home = true
-is_log_call _ = false
 
 -- What an actor's step does: the call and the place, and the queue before; what happens; where the call goes on, if it does;
 -- the queue after; and the memory after, but for the actor itself.

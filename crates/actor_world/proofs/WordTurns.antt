@@ -25,7 +25,7 @@ use Rattle.actor_world.specs.declared.memory.Residence.{Residence}
 use Rattle.actor_world.specs.declared.memory.Slot.{Slot}
 use Rattle.actor_world.specs.declared.memory.Memory.{Memory}
 use Rattle.actor_world.specs.Caches.{cached_word, copied_slot, copy_all, locked, make_dirty, slot_at, unlocked, with_slot}
-use Rattle.actor_world.specs.Moves.{group_of_call, is_mark_due, lies_in_group, links_of, makes_unlinked, place_after_change, sets_mark, stands_at}
+use Rattle.actor_world.specs.Moves.{group_of_call, is_mark_due, lies_in_group, links_of, makes_unlinked, place_after_change, sets_mark, stands_at, is_log_call}
 use Rattle.actor_world.specs.Words.{DeadSays, InstallDue, KillDue, LiveSays, MarkDue, WordSays, any_row, due_at, due_number, mark_due_by, nothing, says}
 use Rattle.actor_world.specs.Invariant.{LiesInGroup, due_of_actor, first_key}
 use Rattle.actor_world.proofs.Effects.{Copies, Effect, Locks, Puts, Same, Unlocks, slots_copied, slots_stay}
@@ -36,7 +36,7 @@ use Rattle.actor_world.proofs.Looks.{inode_other}
 use Rattle.actor_world.proofs.Prepares.{MadeRow, StaysOrComes, prepare_stays}
 use Rattle.actor_world.proofs.Sights.{negated}
 use Rattle.actor_world.proofs.Slots.{live_has_slot, slot_other}
-use Rattle.actor_world.proofs.Turns.{CanLock, DeadRow, HasSlot, HeldWord, Turn, after_turn, changer_key, changes, copies, ends_flush, ends_reclaim, finds_none, finds_row, frees_head, frees_one, goes_on, grow_refuses, grows, installs, installs_made, is_answered, is_log_call, kills, kills_head, leaves, load_crowded, load_finds, load_pins, load_stale, locked_crowded, locked_installs, locked_pins, locked_stale, locks_change, locks_flush, locks_reclaim, locks_short, maker_group, makes, makes_none, marks, next_empty, next_none, next_row, passes, passes_last, pin_misses, pin_misses_locked, pins, pins_locked, reads, refuses, retires, retires_none, unpins, with_word}
+use Rattle.actor_world.proofs.Turns.{CanLock, DeadRow, HasSlot, HeldWord, Turn, after_turn, changer_key, changes, copies, ends_flush, ends_reclaim, finds_none, finds_row, frees_head, frees_one, goes_on, grow_refuses, grows, installs, installs_made, is_answered, kills, kills_head, leaves, load_crowded, load_finds, load_pins, load_stale, locked_crowded, locked_installs, locked_pins, locked_stale, locks_change, locks_flush, locks_reclaim, locks_short, maker_group, makes, makes_none, marks, next_empty, next_none, next_row, passes, passes_last, pin_misses, pin_misses_locked, pins, pins_locked, reads, refuses, retires, retires_none, unpins, with_word}
 use Rattle.actor_world.proofs.TurnsFound.{live_row}
 use Rattle.actor_world.proofs.WordSteps.{changed_other, changed_row, freed_bare, put_word_is, says_dead, says_live, says_stays}
 
@@ -51,7 +51,7 @@ table_after t (Some event) = after_event t event
 put_says : (u : Table) (m : Memory) (number : ℕ) (slot : Slot) → HasSlot m number → WordSays u slot.word number → WordSays u (cached_word (with_slot number slot m) number) number
 put_says u m number slot has right = subst (λ w. WordSays u w number) (sym (put_word_is m number slot has)) right
 
-mark_key : (made : Call) (key : Key) (k : ℕ) → changer_key made ≡ Some key → due_number (mark_due_by made) ≡ Some k → key.number ≡ k
+pub mark_key : (made : Call) (key : Key) (k : ℕ) → changer_key made ≡ Some key → due_number (mark_due_by made) ≡ Some k → key.number ≡ k
 mark_key (call.Link other) key k is due = ap (λ (x : Key). x.number) (sym (same_Some other key is)) ∙ same_Some other.number k due
 mark_key (call.Unlink other) key k is due = ap (λ (x : Key). x.number) (sym (same_Some other key is)) ∙ same_Some other.number k due
 mark_key (call.Cut other count) key k is due = absurd (none-some k due)

@@ -128,6 +128,7 @@ PlaceKeeps start entries t m queue g begin made (place.Free key others) = RowsLe
 PlaceKeeps start entries t m queue g begin made (place.Kill key others) = RowsLeft start entries t g begin others
 PlaceKeeps start entries t m queue g begin made place.Answer = NoneLeft start entries t g begin made
 PlaceKeeps start entries t m queue g begin made place.FreeHead = IsSomeAnd (first_key queue) (MayBeFreed t g)
+PlaceKeeps start entries t m queue g begin made place.KillHead = HeadIsPassed t (first_key queue)
 PlaceKeeps start entries t m queue g begin made place.Pass = HeadIsPassed t (first_key queue)
 PlaceKeeps start entries t m queue g begin made (place.Retire number others) = AllByRecursion (IsCleanIn m g) (number ∷ others)
 PlaceKeeps start entries t m queue g begin made _ = ⊤
@@ -177,7 +178,8 @@ key_made (place.InstallMade key) = Some key
 key_made _ = None
 
 -- what is so of an actor in a call: the call began before now; it stands at one of its places; its group is there; it has
--- its hold, also on what it has made; its entry and its frees are as its place says; and what the place keeps is so
+-- its hold, also on what it has made; its entry and its frees are as its place says; and what the place keeps is so. What is
+-- due is in the group of the call.
 pub record CallIsRight (start : Table) (h : History) (m : Memory) (a : ℕ) (queue : List Key) (d : Doing) : Type 0 where
   pub begun : d.«from» ≤ length h.entries
   pub stands : stands_at d.call d.place ≡ true
@@ -188,6 +190,7 @@ pub record CallIsRight (start : Table) (h : History) (m : Memory) (a : ℕ) (que
   pub frees : FreesAreRight h.entries h.froms h.table a d.«from» d.call d.place
   pub keeps : PlaceKeeps start h.entries h.table m queue (group_of_call queue d.call) d.«from» d.call d.place
   pub due : DueHolds d.call h.table m (due_at (first_key queue) d.call d.place)
+  pub due_here : (number : ℕ) → due_number (due_at (first_key queue) d.call d.place) ≡ Some number → group_of_call queue d.call ≡ Some (number / GROUP_NUMBERS)
 
 abbrev pub DoingIsRight : Table → History → Memory → ℕ → List Key → Option Doing → Type 0
 DoingIsRight start h m a queue None = ⊤

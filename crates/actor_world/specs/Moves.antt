@@ -420,6 +420,12 @@ doing_move (Some d) a t m = if is_some (waits_in_group (actor_at m a).queue d m)
 abbrev pub move_of : ℕ → Table → Memory → Option Move
 move_of a t m = doing_move (actor_at m a).doing a t m
 
+-- whether a call is answered by the log
+abbrev pub is_log_call : Call → Bool
+is_log_call call.Sync = true
+is_log_call call.Home = true
+is_log_call _ = false
+
 -- ---- the places of calls
 
 abbrev pub is_open_place : Place → Bool

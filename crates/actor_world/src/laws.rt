@@ -36,6 +36,12 @@ ghost use Rattle.life_table.specs.History.{IsHeld, key_of};
 ghost use Rattle.actor_world.specs.Moves.{stands_at};
 ghost use Rattle.actor_world.specs.Invariant.{GroupIsThere, key_made};
 ghost use Rattle.actor_world.specs.Invariant.{JobIsRight};
+ghost use Rattle.std.specs.Prelude.{◌/◌, IsSome};
+ghost use Rattle.life_limits.specs.declared.TheConstants.{GROUP_NUMBERS};
+ghost use Rattle.actor_world.specs.Moves.{group_of_call, is_log_call, move_of};
+ghost use Rattle.actor_world.specs.Words.{due_at, due_number};
+ghost use Rattle.actor_world.specs.Licence.{Licensed};
+ghost use Rattle.actor_world.specs.Invariant.{first_key, unfinished_from};
 
 use disk_model::Disk;
 use life_table::{
@@ -220,7 +226,7 @@ pub fn ended_calls_have_one_entry<D: Disk, T: Tells>()
 }
 
 /// A law: after a step each call in progress began before now, stands at one of its places, in a group that is there, and
-/// holds the key that it is made on and the key that it made.
+/// holds the key that it is made on and the key that it made. What is due is in the group of its call.
 pub fn steps_keep_calls_at_their_places<D: Disk, T: Tells>()
     ensures begun { (face : DiskFace D) (start : Table) (a : ℕ) (old new : World D) → Invariant T.tells start old → Step face T.tells a old new
         → (b : ℕ) (d : Doing) → (actor_at new.memory b).doing ≡ Some d → d.«from» ≤ length new.history.entries }
@@ -232,11 +238,16 @@ pub fn steps_keep_calls_at_their_places<D: Disk, T: Tells>()
         → (b : ℕ) (d : Doing) → (actor_at new.memory b).doing ≡ Some d → IsHeld new.history.entries b (key_of d.call) }
     ensures made { (face : DiskFace D) (start : Table) (a : ℕ) (old new : World D) → Invariant T.tells start old → Step face T.tells a old new
         → (b : ℕ) (d : Doing) → (actor_at new.memory b).doing ≡ Some d → IsHeld new.history.entries b (key_made d.place) }
+    ensures due_here { (face : DiskFace D) (start : Table) (a : ℕ) (old new : World D) → Invariant T.tells start old → Step face T.tells a old new
+        → (b : ℕ) (d : Doing) → (actor_at new.memory b).doing ≡ Some d → (number : ℕ)
+        → due_number (due_at (first_key (actor_at new.memory b).queue) d.call d.place) ≡ Some number
+        → group_of_call (actor_at new.memory b).queue d.call ≡ Some (number / GROUP_NUMBERS) }
 {
     each_call_has_one_reply();
     tables_stay_well_formed();
     rows_are_within_limits();
     holders_have_rows();
+    lowest_keys_are_least();
 }
 
 /// A law: after a step the store has a job exactly where the holder of its lock is at one, a force reaches all changes from
@@ -250,3 +261,22 @@ pub fn steps_keep_the_job<D: Disk, T: Tells>()
     rows_are_within_limits();
     holders_have_rows();
 }
+
+/// A law: in a world that meets the invariant what happened is one legal history from the table at which the mount began,
+/// each free has its call and its reason, and no entry stands before its call's begin.
+pub fn right_worlds_have_one_history<D: Disk, T: Tells>()
+    ensures legal { (start : Table) (w : World D) → Invariant T.tells start w → LegalHistory start w.history.entries w.history.table }
+    ensures licensed { (start : Table) (w : World D) → Invariant T.tells start w
+        → Licensed start w.history.entries w.history.froms (unfinished_from 0 w.memory.actors) }
+    ensures intervals { (start : Table) (w : World D) → Invariant T.tells start w → Interval w.history.entries w.history.froms }
+{}
+
+/// A law: in a world that meets the invariant a call that the log does not answer has its next step, unless that takes a
+/// lock that another actor holds. So a call waits exactly there, and whoever holds a lock of a group has a step.
+pub fn calls_wait_for_locks_alone<D: Disk, T: Tells>()
+    ensures steps { (start : Table) (w : World D) (a : ℕ) (d : Doing) → Invariant T.tells start w → (actor_at w.memory a).doing ≡ Some d
+        → is_log_call d.call ≡ false → waits_in_group (actor_at w.memory a).queue d w.memory ≡ None → IsSome (move_of a w.history.table w.memory) }
+    ensures waits { (t : Table) (m : Memory) (a b : ℕ) (d : Doing) → (actor_at m a).doing ≡ Some d
+        → waits_in_group (actor_at m a).queue d m ≡ Some b → move_of a t m ≡ None }
+    ensures holders { (queue : List Key) (d : Doing) (m : Memory) → lies_in_group d.place ≡ true → waits_in_group queue d m ≡ None }
+{}
