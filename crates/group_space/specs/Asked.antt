@@ -1,5 +1,5 @@
--- What a change of a space asks for: that the space is one of chunks of which the change can be made. Each says that there
--- are such chunks; what comes of a change is said of all of them.
+-- What a change of a space asks for: that the space is one of chunks of which the change can be made. Each says that
+-- there are such chunks; what comes of a change is said of all of them.
 use Rattle.std.specs.Prelude.{◌≡◌, ◌≤◌, ℕ, List, ◌++◌, Some, is_some, true}
 use Rattle.life_limits.specs.declared.TheConstants.{MAX_BLOCKS}
 use Rattle.life_table.specs.declared.table.Inode.{Inode}

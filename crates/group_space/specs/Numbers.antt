@@ -6,4 +6,5 @@ use Rattle.inobt_leaf.specs.Chunks.{chunk_holds}
 
 -- a record holds the number, and its bit is set
 abbrev pub SaysUnused : List ChunkRec → ℕ → Type 0
-SaysUnused records agino = IsSomeAnd (find (chunk_holds agino) records) (λ chunk. is_set chunk.mask (agino - chunk.start) ≡ true)
+SaysUnused records agino =
+    IsSomeAnd (find (chunk_holds agino) records) (λ chunk. is_set chunk.mask (agino - chunk.start) ≡ true)

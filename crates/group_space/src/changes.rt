@@ -78,8 +78,8 @@ impl GroupSpace {
     /// A chunk is added at a block, and a row without blocks takes its first number. It copies the records and the map.
     pub fn with_chunk_added(&self, alloc: Global, block: u32) -> Result<SpaceChange, NoMemory>
         requires { HasPlace self.now block }
-        ensures { (blocks : ℕ) (chunks : Group) (new : Inode) → IsSpaceOf blocks chunks self.now → is_some new.row ≡ true
-            → row_blocks new.row ≡ [] → IfOk result (λ change.
+        ensures { (blocks : ℕ) (chunks : Group) (new : Inode) → IsSpaceOf blocks chunks self.now
+            → is_some new.row ≡ true → row_blocks new.row ≡ [] → IfOk result (λ change.
             IsSpaceOf blocks (set_inode (insert_chunk (new_chunk block) chunks) (BLOCK_SECTORS * block) new)
             (changed_space self.now change)) }
     {
@@ -120,7 +120,8 @@ impl GroupSpace {
     pub fn with_blocks_taken(&self, blocks: &[u32]) -> SpaceChange
         requires { HasFree self.now blocks.now }
         ensures { (size : ℕ) (chunks : Group) (agino : ℕ) (old new : Inode) → IsSpaceOf size chunks self.now
-            → inode_in chunks agino ≡ Some old → is_none new.row ≡ is_none old.row → row_blocks new.row ≡ row_blocks old.row ++ blocks.now
+            → inode_in chunks agino ≡ Some old → is_none new.row ≡ is_none old.row
+            → row_blocks new.row ≡ row_blocks old.row ++ blocks.now
             → IsSpaceOf size (set_inode chunks agino new) (changed_space self.now result) }
     {
         SpaceChange {
@@ -132,8 +133,8 @@ impl GroupSpace {
     /// A row gives its last blocks up, which are these. It copies the map.
     pub fn with_blocks_given(&self, blocks: &[u32]) -> SpaceChange
         requires { HasLast self.now blocks.now }
-        ensures { (size : ℕ) (chunks : Group) (agino : ℕ) (old new : Inode) → IsSpaceOf size chunks self.now → IsGroup size chunks
-            → inode_in chunks agino ≡ Some old → is_none new.row ≡ is_none old.row
+        ensures { (size : ℕ) (chunks : Group) (agino : ℕ) (old new : Inode) → IsSpaceOf size chunks self.now
+            → IsGroup size chunks → inode_in chunks agino ≡ Some old → is_none new.row ≡ is_none old.row
             → row_blocks old.row ≡ row_blocks new.row ++ blocks.now
             → IsSpaceOf size (set_inode chunks agino new) (changed_space self.now result) }
     {

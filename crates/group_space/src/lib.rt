@@ -1,5 +1,5 @@
-//! What of a group its allocation is, in memory: the leaf of its chunks, and the map of its free blocks. Contracts speak
-//! of the chunks of the table that the two are those of.
+//! What of a group its allocation is, in memory: the leaf of its chunks, and the map of its free blocks. Contracts
+//! speak of the chunks of the table that the two are those of.
 #![tactic(auto)]
 
 mod blocks;

@@ -28,7 +28,8 @@ fn bit_from(mask: u64, from: u32) -> Option<u32>
 pub(crate) fn unused_in(records: &[ChunkRec], from: u32) -> Option<u32>
     requires { IsLeaf records.now }
     ensures unused { IfSome result (λ agino. (from ≤ agino) × SaysUnused records.now agino) }
-    ensures least { (agino : ℕ) → from ≤ agino → SaysUnused records.now agino → IsSomeAnd result (λ least. least ≤ agino) }
+    ensures least { (agino : ℕ) → from ≤ agino → SaysUnused records.now agino
+        → IsSomeAnd result (λ least. least ≤ agino) }
 {
     for chunk in records {
         if let Some(place) = bit_from(chunk.mask, from.saturating_sub(chunk.start)) {

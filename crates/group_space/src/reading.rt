@@ -3,7 +3,6 @@
 ghost use Rattle.std.specs.Prelude.{◌≡◌, ◌≤◌, ◌<◌, ◌+◌, ◌*◌, ℕ, List, IfOk, MatchResult, length, map};
 ghost use Rattle.life_limits.specs.declared.TheConstants.{BLOCK_SECTORS, LAST_PAGE_BLOCK};
 ghost use Rattle.life_bytes.specs.SectorBytes.{bytes_of};
-ghost use Rattle.geometry.specs.Places.{group_sectors};
 ghost use Rattle.geometry.specs.Shape.{IsGeometry};
 ghost use Rattle.inobt_leaf.specs.declared.chunk.ChunkRec.{ChunkRec};
 ghost use Rattle.inobt_leaf.specs.Chunks.{IsLeaf};
@@ -12,7 +11,7 @@ ghost use Rattle.free_map.specs.Bitmap.{bitmap, read_blocks};
 ghost use Rattle.life_table.specs.Table.{Group};
 ghost use Rattle.sound_image.specs.Rules.{free_set};
 ghost use Rattle.sound_image.specs.Encoding.{Layouts, chunk_record, page_bytes, page_of};
-ghost use Rattle.group_space.specs.Space.{IsSpaceOf};
+ghost use Rattle.group_space.specs.Space.{IsSpaceOf, block_place};
 
 use crate::space::GroupSpace;
 use crate::writing::block_sector;
@@ -60,17 +59,18 @@ pub fn read_space(
     requires bits { length bits.now ≡ 4 }
     // What is read is encoded so.
     ensures page { IfOk result (λ space. IsLeaf space.records
-        × (bytes_of page.now ≡ page_encoding space.records group (group * group_sectors g.now + BLOCK_SECTORS * block) g.now.uuid)) }
+        × (bytes_of page.now ≡ page_encoding space.records group (block_place g.now group block) g.now.uuid)) }
     ensures bits { IfOk result (λ space. space.free ≡ read_blocks (bytes_of bits.now) g.now.blocks) }
 
     // A page is malformed only where it encodes no records.
     ensures only { (records : List ChunkRec) → IsLeaf records
-        → bytes_of page.now ≡ page_encoding records group (group * group_sectors g.now + BLOCK_SECTORS * block) g.now.uuid
+        → bytes_of page.now ≡ page_encoding records group (block_place g.now group block) g.now.uuid
         → MatchResult result (λ space. space.records ≡ records) (λ fault. fault ≡ SpaceFault.NoMemory) }
 
     // The space of chunks is read from the sectors that encode them.
-    ensures space_of { (chunks : Group) (layouts : Layouts) → IsLeaf (map chunk_record chunks) → page_of layouts group ≡ block
-        → bytes_of page.now ≡ page_bytes g.now layouts group chunks → bytes_of bits.now ≡ bitmap (free_set g.now.blocks chunks)
+    ensures space_of { (chunks : Group) (layouts : Layouts) → IsLeaf (map chunk_record chunks)
+        → page_of layouts group ≡ block → bytes_of page.now ≡ page_bytes g.now layouts group chunks
+        → bytes_of bits.now ≡ bitmap (free_set g.now.blocks chunks)
         → MatchResult result (IsSpaceOf g.now.blocks chunks) (λ fault. fault ≡ SpaceFault.NoMemory) }
 {
     bitmaps_are_the_sets();

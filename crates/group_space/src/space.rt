@@ -90,7 +90,8 @@ impl GroupSpace {
 
     /// The block at which the next chunk begins.
     pub fn chunk_block(&self) -> Option<u32>
-        ensures { (blocks : ℕ) (chunks : Group) → IsSpaceOf blocks chunks self.now → result ≡ chunk_place blocks chunks }
+        ensures { (blocks : ℕ) (chunks : Group) → IsSpaceOf blocks chunks self.now
+            → result ≡ chunk_place blocks chunks }
     {
         chunks_have_the_lowest_place();
         if self.leaf.chunks().len() >= MAX_CHUNKS as usize {
@@ -101,14 +102,16 @@ impl GroupSpace {
 
     /// How many blocks are free. It looks at none of them.
     pub fn free_count(&self) -> u32
-        ensures { (blocks : ℕ) (chunks : Group) → IsSpaceOf blocks chunks self.now → result ≡ length (free_blocks blocks chunks) }
+        ensures { (blocks : ℕ) (chunks : Group) → IsSpaceOf blocks chunks self.now
+            → result ≡ length (free_blocks blocks chunks) }
     {
         self.free.free()
     }
 
     /// The `n` lowest free blocks, ascending.
     pub fn lowest_blocks(&self, alloc: Global, n: u32) -> Result<Vec<u32>, NoMemory>
-        requires { (blocks : ℕ) × (chunks : Group) × IsSpaceOf blocks chunks self.now × (n ≤ length (free_blocks blocks chunks)) }
+        requires { (blocks : ℕ) × (chunks : Group) × IsSpaceOf blocks chunks self.now
+            × (n ≤ length (free_blocks blocks chunks)) }
         ensures lowest { (blocks : ℕ) (chunks : Group) → IsSpaceOf blocks chunks self.now
             → IfOk result (λ found. found.items ≡ take n (free_blocks blocks chunks)) }
         ensures free { (blocks : ℕ) (chunks : Group) → IsSpaceOf blocks chunks self.now

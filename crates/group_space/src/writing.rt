@@ -3,7 +3,6 @@
 ghost use Rattle.std.specs.Prelude.{◌≡◌, ◌≤◌, ◌<◌, ◌+◌, ◌*◌, ℕ, length, sum_by};
 ghost use Rattle.life_limits.specs.declared.TheConstants.{BLOCK_SECTORS, CHUNK_INODES, LAST_PAGE_BLOCK};
 ghost use Rattle.life_bytes.specs.SectorBytes.{bytes_of};
-ghost use Rattle.geometry.specs.Places.{group_sectors};
 ghost use Rattle.geometry.specs.Shape.{IsGeometry};
 ghost use Rattle.inobt_leaf.specs.declared.chunk.ChunkRec.{ChunkRec};
 ghost use Rattle.free_map.specs.Bitmap.{bitmap};
@@ -11,7 +10,7 @@ ghost use Rattle.life_table.specs.declared.table.Chunk.{Chunk};
 ghost use Rattle.life_table.specs.Table.{Group};
 ghost use Rattle.sound_image.specs.Rules.{free_set};
 ghost use Rattle.sound_image.specs.Encoding.{Layouts, free_count, page_bytes, page_of};
-ghost use Rattle.group_space.specs.Space.{IsSpaceOf, changed_space};
+ghost use Rattle.group_space.specs.Space.{IsSpaceOf, block_place, changed_space};
 
 use crate::numbers::sum_free;
 use crate::space::{GroupSpace, SpaceChange, SpaceCounts};
@@ -26,7 +25,7 @@ pub(crate) fn block_sector(g: &Geometry, group: u32, block: u32) -> u64
     requires shape { IsGeometry g.now }
     requires inside { group < g.now.groups }
     requires low { block ≤ LAST_PAGE_BLOCK }
-    ensures { result ≡ group * group_sectors g.now + BLOCK_SECTORS * block }
+    ensures { result ≡ block_place g.now group block }
 {
     let group_sectors = u64::from(g.blocks) * u64::from(BLOCK_SECTORS);
     u64::from(group) * group_sectors + u64::from(BLOCK_SECTORS) * u64::from(block)
@@ -67,7 +66,8 @@ impl GroupSpace {
 
     /// The counts of the group's header.
     pub fn counts(&self) -> SpaceCounts
-        ensures inodes { (blocks : ℕ) (chunks : Group) → IsSpaceOf blocks chunks self.now → result.inodes ≡ CHUNK_INODES * length chunks }
+        ensures inodes { (blocks : ℕ) (chunks : Group) → IsSpaceOf blocks chunks self.now
+            → result.inodes ≡ CHUNK_INODES * length chunks }
         ensures free { (blocks : ℕ) (chunks : Group) → IsSpaceOf blocks chunks self.now
             → result.free ≡ sum_by (λ (chunk : Chunk). free_count chunk.inodes) chunks }
     {
@@ -90,8 +90,8 @@ impl GroupSpace {
         requires inside { group < g.now.groups }
         requires low { block ≤ LAST_PAGE_BLOCK }
         requires long { length page.old ≡ BLOCK_SECTORS }
-        ensures { (blocks : ℕ) (chunks : Group) (layouts : Layouts) → IsSpaceOf blocks chunks self.now → page_of layouts group ≡ block
-            → bytes_of page.new ≡ page_bytes g.now layouts group chunks }
+        ensures { (blocks : ℕ) (chunks : Group) (layouts : Layouts) → IsSpaceOf blocks chunks self.now
+            → page_of layouts group ≡ block → bytes_of page.new ≡ page_bytes g.now layouts group chunks }
     {
         let at = block_sector(g, group, block);
         write_page(&self.leaf, block, group, at, &g.uuid, page);
@@ -110,8 +110,9 @@ impl GroupSpace {
         requires inside { group < g.now.groups }
         requires low { block ≤ LAST_PAGE_BLOCK }
         requires long { length page.old ≡ BLOCK_SECTORS }
-        ensures { (blocks : ℕ) (chunks : Group) (layouts : Layouts) → IsSpaceOf blocks chunks (changed_space self.now change.now)
-            → page_of layouts group ≡ block → bytes_of page.new ≡ page_bytes g.now layouts group chunks }
+        ensures { (blocks : ℕ) (chunks : Group) (layouts : Layouts)
+            → IsSpaceOf blocks chunks (changed_space self.now change.now) → page_of layouts group ≡ block
+            → bytes_of page.new ≡ page_bytes g.now layouts group chunks }
     {
         let at = block_sector(g, group, block);
         write_page(self.leaf_after(change), block, group, at, &g.uuid, page);
@@ -120,7 +121,8 @@ impl GroupSpace {
     /// Writes the bitmap over its 4 sectors.
     pub fn write_map(&self, into: &mut [Sector])
         requires { length into.old ≡ 4 }
-        ensures { (blocks : ℕ) (chunks : Group) → IsSpaceOf blocks chunks self.now → bytes_of into.new ≡ bitmap (free_set blocks chunks) }
+        ensures { (blocks : ℕ) (chunks : Group) → IsSpaceOf blocks chunks self.now
+            → bytes_of into.new ≡ bitmap (free_set blocks chunks) }
     {
         self.free.write_map(into);
     }
