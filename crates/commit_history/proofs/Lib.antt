@@ -1,3 +1,4 @@
 pub mod Following
 pub mod Encoded
 pub mod Fitting
+pub mod Parts

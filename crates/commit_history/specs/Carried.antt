@@ -1,5 +1,5 @@
 -- Commits of the groups of an image, one after the other, and the tables that they lead to. A table has nobody's holds here (`closed`), since none is encoded.
-use Rattle.std.specs.Prelude.{◌≡◌, ◌<◌, ◌≤◌, ℕ, List, [], ◌∷◌, length, slice_set}
+use Rattle.std.specs.Prelude.{◌≡◌, ◌==◌, ◌<◌, ◌≤◌, ℕ, List, [], ◌∷◌, filter, length}
 use Rattle.life_limits.specs.declared.TheConstants.{MAX_IMAGES}
 use Rattle.life_bytes.specs.declared.sector.Sector.{Sector}
 use Rattle.geometry.specs.declared.shape.Geometry.{Geometry}
@@ -33,3 +33,7 @@ CommitsCarry g t layouts (commit ∷ commits) u others =
 pub record AreAlikeIn (group : ℕ) (t : Table) (layouts : Layouts) (u : Table) (others : Layouts) : Type 0 where
   pub chunks : group_at u group ≡ group_at t group
   pub layout : layout_of others group ≡ layout_of layouts group
+
+-- the commits of a group, in their order
+abbrev pub commits_in : ℕ → List Commit → List Commit
+commits_in group commits = filter (λ (c : Commit). c.group == group) commits

@@ -14,7 +14,7 @@ ghost use Rattle.sound_image.specs.Places.{sector_in};
 ghost use Rattle.sound_image.specs.Encoding.{Layouts, CanEncode, encoded};
 ghost use Rattle.whole_image.specs.Damage.{HasFrontAndLog, groups_of};
 ghost use Rattle.whole_image.specs.Represents.{Represents};
-ghost use Rattle.commit_history.specs.Carried.{CommitCarries, CommitsCarry, IsEncoding};
+ghost use Rattle.commit_history.specs.Carried.{AreAlikeIn, CommitCarries, CommitsCarry, IsEncoding, commits_in};
 
 use encoded_changes::{images_carry_changes, places_have_their_metadata};
 use whole_image::encoded_images_represent_their_table;
@@ -66,3 +66,21 @@ pub fn prefixes_represent_their_table()
     images_carry_changes();
     encoded_images_represent_their_table();
 }
+
+/// A law: a commit leaves the sectors of all groups but its own. Commits of one group carry on each table that has this group, to one that has it as the first
+/// had it at their end, and its other groups stay. Of a list that carries a table on, the commits of one group carry it on to where this group is as at the end;
+/// and where those of each group carry the table on, the whole list does, to a table each group of which is as at the end of its own.
+pub fn groups_are_carried_apart()
+    ensures leaves { (g : Geometry) (t u : Table) (layouts others : Layouts) (sectors : List Sector) (commit : Commit) (other place : ℕ) (d : Sector) → CommitCarries g t layouts u others commit
+        → other ≢ commit.group → place < group_sectors g → slice_index_or (overlaid sectors commit.images) (sector_in g other place) d ≡ slice_index_or sectors (sector_in g other place) d }
+    ensures moved { (g : Geometry) (group : ℕ) (t u s : Table) (layouts others shown : Layouts) (sectors other : List Sector) (commits : List Commit) → All (λ (c : Commit). c.group ≡ group) commits
+        → CommitsCarry g t layouts commits u others → CanEncode g t layouts sectors → CanEncode g s shown other → AreAlikeIn group t layouts s shown
+        → (v : Table) × (last : Layouts) × CommitsCarry g s shown commits v last × AreAlikeIn group u others v last
+        × ((rest : ℕ) → rest ≢ group → AreAlikeIn rest s shown v last) }
+    ensures of_one_group { (g : Geometry) (group : ℕ) (t u : Table) (layouts others : Layouts) (sectors : List Sector) (commits : List Commit) → CanEncode g t layouts sectors
+        → CommitsCarry g t layouts commits u others → (v : Table) × (last : Layouts) × CommitsCarry g t layouts (commits_in group commits) v last × AreAlikeIn group u others v last
+        × ((rest : ℕ) → rest ≢ group → AreAlikeIn rest t layouts v last) }
+    ensures of_all_groups { (g : Geometry) (t : Table) (layouts : Layouts) (sectors : List Sector) (commits : List Commit) (ends : ℕ → Table) (lists : ℕ → Layouts) → CanEncode g t layouts sectors
+        → All (λ (c : Commit). c.group < g.groups) commits → ((group : ℕ) → group < g.groups → CommitsCarry g t layouts (commits_in group commits) (ends group) (lists group))
+        → (u : Table) × (others : Layouts) × CommitsCarry g t layouts commits u others × ((group : ℕ) → group < g.groups → AreAlikeIn group (ends group) (lists group) u others) }
+{}

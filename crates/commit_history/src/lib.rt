@@ -5,5 +5,5 @@ mod laws;
 
 pub use laws::{
     commits_fit_the_log, commits_follow_each_other, commits_lead_from_encoding_to_encoding,
-    prefixes_represent_their_table,
+    groups_are_carried_apart, prefixes_represent_their_table,
 };
