@@ -1,0 +1,10 @@
+pub mod Sights
+pub mod Finding
+pub mod Outcomes
+pub mod Fetching
+pub mod Places
+pub mod Told
+pub mod Inodes
+pub mod Loaded
+pub mod RowLines
+pub mod Seen

@@ -1,0 +1,36 @@
+-- The value of a group's state as plain data, by which proofs tell two of them apart.
+use Rattle.std.specs.Prelude.{ℕ, Bool, List, refl}
+use Rattle.std.specs.Coded.{Coded, code_by, coded×, coded_ℕ, coded_bool, coded_list}
+use Rattle.life_bytes.specs.declared.sector.Sector.{Sector}
+use Rattle.geometry.specs.declared.shape.Geometry.{Geometry}
+use Rattle.inobt_leaf.specs.declared.chunk.ChunkRec.{ChunkRec}
+use Rattle.inode_cache.specs.Caches.{Cache, cache_code}
+use Rattle.group_ops.specs.Buffers.{Buffers}
+use Rattle.group_ops.specs.Values.{GroupValue}
+
+abbrev pub geometry_code : Coded Geometry
+geometry_code =
+    code_by
+    (ℕ × (ℕ × (ℕ × (ℕ × List ℕ))))
+    (coded× coded_ℕ (coded× coded_ℕ (coded× coded_ℕ (coded× coded_ℕ (coded_list coded_ℕ)))))
+    (λ g. (g.version, (g.groups, (g.blocks, (g.ring, g.uuid)))))
+    (λ p. record { version = p.0; groups = p.1.0; blocks = p.1.1.0; ring = p.1.1.1.0; uuid = p.1.1.1.1 })
+    (λ _. refl)
+
+abbrev pub record_code : Coded ChunkRec
+record_code = code_by (ℕ × (ℕ × ℕ)) (coded× coded_ℕ (coded× coded_ℕ coded_ℕ)) (λ c. (c.start, (c.free, c.mask))) (λ p. record { start = p.0; free = p.1.0; mask = p.1.1 }) (λ _. refl)
+
+abbrev pub sector_code : Coded Sector
+sector_code = code_by (List ℕ) (coded_list coded_ℕ) (λ s. s.bytes) (λ bytes. record { bytes = bytes }) (λ _. refl)
+
+abbrev pub buffers_code : Coded Buffers
+buffers_code = code_by (ℕ × List Sector) (coded× coded_ℕ (coded_list sector_code)) (λ b. (b.start, b.sectors)) (λ p. record { start = p.0; sectors = p.1 }) (λ _. refl)
+
+abbrev pub group_code : Coded GroupValue
+group_code =
+    code_by
+    (Geometry × (ℕ × (ℕ × (List ℕ × (List ChunkRec × (List Bool × (List Buffers × Cache)))))))
+    (coded× geometry_code (coded× coded_ℕ (coded× coded_ℕ (coded× (coded_list coded_ℕ) (coded× (coded_list record_code) (coded× (coded_list coded_bool) (coded× (coded_list buffers_code) cache_code)))))))
+    (λ s. (s.geometry, (s.group, (s.page, (s.heads, (s.records, (s.free, (s.buffers, s.cache))))))))
+    (λ p. record { geometry = p.0; group = p.1.0; page = p.1.1.0; heads = p.1.1.1.0; records = p.1.1.1.1.0; free = p.1.1.1.1.1.0; buffers = p.1.1.1.1.1.1.0; cache = p.1.1.1.1.1.1.1 })
+    (λ _. refl)
