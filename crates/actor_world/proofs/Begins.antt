@@ -123,7 +123,6 @@ queue_begins t _ queue whole same = same
 
 module _ (laws : Laws) (start : Table) (h : History) (m : Memory) (inv : Within start h m) (a : ℕ) (made : Call) (low : a < length m.actors)
     (idle : (actor_at m a).doing ≡ None) (held : IsHeld h.entries a (key_of made)) (there : GroupExists m made) where
-
   begun_actor : Actor
   begun_actor = record { doing = Some (beginning made h); queue = (actor_at m a).queue }
 
@@ -197,20 +196,23 @@ module _ (laws : Laws) (start : Table) (h : History) (m : Memory) (inv : Within 
   begun_locks : (g b : ℕ) → (cache_at m g).holder ≡ Some b ↔ LiesInGroup g (actor_at begun_memory b)
   begun_locks g b =
       elim (cases_eq b a) [
-        | inl same ↦
-            (λ holds. absurd (idle_lies_not g ((inv.group_locks g a).0 (holds ∙ ap (λ n. Some n) same))),
-              λ lies. absurd (lies_not g (subst (λ (x : Actor). LiesInGroup g x) (ap (λ n. actor_at begun_memory n) same ∙ own) lies)))
-        | inr apart ↦
-            (λ holds. subst (λ (x : Actor). LiesInGroup g x) (sym (other b apart)) ((inv.group_locks g b).0 holds),
-              λ lies. (inv.group_locks g b).1 (subst (λ (x : Actor). LiesInGroup g x) (other b apart) lies))
+        | inl same ↦ (
+          λ holds. absurd (idle_lies_not g ((inv.group_locks g a).0 (holds ∙ ap (λ n. Some n) same))),
+          λ lies. absurd (lies_not g (subst (λ (x : Actor). LiesInGroup g x) (ap (λ n. actor_at begun_memory n) same ∙ own) lies)),
+        )
+        | inr apart ↦ (
+          λ holds. subst (λ (x : Actor). LiesInGroup g x) (sym (other b apart)) ((inv.group_locks g b).0 holds),
+          λ lies. (inv.group_locks g b).1 (subst (λ (x : Actor). LiesInGroup g x) (other b apart) lies),
+        )
       ]
 
   begun_log_lock : (holder : Option ℕ) → ((b : ℕ) → holder ≡ Some b ↔ LiesInLog (actor_at m b)) → (b : ℕ) → holder ≡ Some b ↔ LiesInLog (actor_at begun_memory b)
   begun_log_lock holder lock b =
       elim (cases_eq b a) [
-        | inl same ↦
-            (λ holds. absurd (idle_log_not ((lock a).0 (holds ∙ ap (λ n. Some n) same))),
-              λ lies. absurd (log_lies_not (subst LiesInLog (ap (λ n. actor_at begun_memory n) same ∙ own) lies)))
+        | inl same ↦ (
+          λ holds. absurd (idle_log_not ((lock a).0 (holds ∙ ap (λ n. Some n) same))),
+          λ lies. absurd (log_lies_not (subst LiesInLog (ap (λ n. actor_at begun_memory n) same ∙ own) lies)),
+        )
         | inr apart ↦ (λ holds. subst LiesInLog (sym (other b apart)) ((lock b).0 holds), λ lies. (lock b).1 (subst LiesInLog (other b apart) lies))
       ]
 

@@ -102,7 +102,6 @@ no_change tells old new made (Some answer) none = subst (λ b. TailIs tells old 
 
 module _ {D : Type 0} (tells : Telling) (start : Table) (old new : World D) (right : CommitsAreRight tells start old) (leads : Leads start old.history.entries old.history.table)
     (long : length old.history.froms ≡ length old.history.entries) (a begin : ℕ) (event : Option Event) (is : new.history ≡ told_if a begin event old.history) where
-
   now : replay (beginning_of start) old.history.entries old.history.froms ≡ old.history
   now =
       replayed (beginning_of start) old.history.entries old.history.froms long
@@ -136,10 +135,10 @@ module _ {D : Type 0} (tells : Telling) (start : Table) (old new : World D) (rig
         count = omega (arith, low, first, durable, before, both);
         tell = subst (λ (h : History). CommitsOf tells (beginning_of start) h.entries h.froms (((right.durable ++ landed) ++ (state_of new.store).list) ++ new.queue)) (sym is)
             (subst (λ cs. CommitsOf tells (beginning_of start) (told_if a begin event old.history).entries (told_if a begin event old.history).froms cs)
-              (ap (λ cs. cs ++ more) (append_assoc right.durable (state_of old.store).list old.queue)
-                ∙ append_assoc right.durable ((state_of old.store).list ++ old.queue) more ∙ ap (λ cs. right.durable ++ cs) (sym waits) ∙ sym (append_assoc right.durable landed ((state_of new.store).list ++ new.queue))
-                ∙ sym (append_assoc (right.durable ++ landed) (state_of new.store).list new.queue))
-              (told_more event more adds));
+            (ap (λ cs. cs ++ more) (append_assoc right.durable (state_of old.store).list old.queue)
+            ∙ append_assoc right.durable ((state_of old.store).list ++ old.queue) more ∙ ap (λ cs. right.durable ++ cs) (sym waits) ∙ sym (append_assoc right.durable landed ((state_of new.store).list ++ new.queue))
+            ∙ sym (append_assoc (right.durable ++ landed) (state_of new.store).list new.queue))
+            (told_more event more adds));
       }
 
 -- ---- steps
@@ -170,7 +169,7 @@ advanced_commits face tells start a d made old new inv none fits step =
     kept_with tells start old new inv.commits inv.legal.leads inv.intervals.length_is a d.«from» _ step.turn.history [] (no_change tells old.history _ made _ none) landed.0
     step.turn.first_commit landed.1
     (sym (append_assoc landed.0 (state_of new.store).list new.queue) ∙ ap (λ cs. cs ++ new.queue) landed.2 ∙ ap (λ cs. (state_of old.store).list ++ cs) step.queue
-      ∙ sym (append-nil ((state_of old.store).list ++ old.queue)))
+    ∙ sym (append-nil ((state_of old.store).list ++ old.queue)))
 
 -- the record in flight of a job that goes on fits
 pub job_fits : {D : Type 0} (tells : Telling) (start : Table) (a : ℕ) (d : Doing) (old : World D) → Invariant tells start old → (actor_at old.memory a).doing ≡ Some d

@@ -167,12 +167,12 @@ each_turn laws start h m a (call.Create g) at begin queue s =
     create_turn laws start h m a (call.Create g) g at begin queue s refl refl refl refl
     (laws.computed h.table (call.Create g) tt (group_there start h m s.inv g s.right.group))
     (room_facts start h m a (call.Create g) at begin queue s (λ here other is.
-      subst (CanLock m) (same_Some g other is) (record { there = s.right.group; free = subst (λ p. group_holder (Some g) (takes_group p) m ≡ None) here s.free })))
+    subst (CanLock m) (same_Some g other is) (record { there = s.right.group; free = subst (λ p. group_holder (Some g) (takes_group p) m ≡ None) here s.free })))
 each_turn laws start h m a (call.Tmpfile g) at begin queue s =
     create_turn laws start h m a (call.Tmpfile g) g at begin queue s refl refl refl refl
     (laws.computed h.table (call.Tmpfile g) tt (group_there start h m s.inv g s.right.group))
     (room_facts start h m a (call.Tmpfile g) at begin queue s (λ here other is.
-      subst (CanLock m) (same_Some g other is) (record { there = s.right.group; free = subst (λ p. group_holder (Some g) (takes_group p) m ≡ None) here s.free })))
+    subst (CanLock m) (same_Some g other is) (record { there = s.right.group; free = subst (λ p. group_holder (Some g) (takes_group p) m ≡ None) here s.free })))
 each_turn laws start h m a (call.OpenKey key) at begin queue s = open_turn laws start h m a key at begin queue s
 each_turn laws start h m a (call.CloseKey key) at begin queue s = close_turn laws start h m a key at begin queue s
 each_turn laws start h m a (call.Link key) at begin queue s =
@@ -187,8 +187,8 @@ each_turn laws start h m a (call.Unlink key) at begin queue s =
     (λ answer here. subst (λ p. DueHolds (call.Unlink key) h.table m (due_at (first_key queue) (call.Unlink key) p)) here s.right.due)
 each_turn laws start h m a (call.Grow key count) at begin queue s =
     grow_turn laws start h m a key count at begin queue s (room_facts start h m a (call.Grow key count) at begin queue s (λ here g is.
-      let same : group_number key ≡ g = same_Some (group_number key) g is in
-      subst (CanLock m) same (record { there = s.right.group; free = subst (λ p. group_holder (Some (group_number key)) (takes_group p) m ≡ None) here s.free })))
+    let same : group_number key ≡ g = same_Some (group_number key) g is in
+    subst (CanLock m) same (record { there = s.right.group; free = subst (λ p. group_holder (Some (group_number key)) (takes_group p) m ≡ None) here s.free })))
 each_turn laws start h m a (call.Cut key count) at begin queue s =
     link_turn laws start h m a (call.Cut key count) key at begin queue s refl refl s.right.held
     (λ here. record { there = s.right.group; free = subst (λ p. group_holder (Some (group_number key)) (takes_group p) m ≡ None) here s.free })

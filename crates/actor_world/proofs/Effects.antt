@@ -119,12 +119,12 @@ slots_stay m g holder number =
     let cache : GroupCache = record { slots = (cache_at m g).slots; holder = holder } in
     elim (cases_eq (number / GROUP_NUMBERS) g) [
       | inl same ↦ elim (cases_lt g (length m.groups)) [
-          | inl low ↦
-              ap (λ h. slice_index_or (cache_at (with_cache g cache m) h).slots (number % GROUP_NUMBERS) first_slot) same
-              ∙ ap (λ (c : GroupCache). slice_index_or c.slots (number % GROUP_NUMBERS) first_slot) (cache_same m g cache low)
-              ∙ ap (λ h. slice_index_or (cache_at m h).slots (number % GROUP_NUMBERS) first_slot) (sym same)
-          | inr high ↦ ap (λ (n : Memory). slot_at n number) (with_cache_past m g cache high)
-        ]
+        | inl low ↦
+            ap (λ h. slice_index_or (cache_at (with_cache g cache m) h).slots (number % GROUP_NUMBERS) first_slot) same
+            ∙ ap (λ (c : GroupCache). slice_index_or c.slots (number % GROUP_NUMBERS) first_slot) (cache_same m g cache low)
+            ∙ ap (λ h. slice_index_or (cache_at m h).slots (number % GROUP_NUMBERS) first_slot) (sym same)
+        | inr high ↦ ap (λ (n : Memory). slot_at n number) (with_cache_past m g cache high)
+      ]
       | inr differ ↦ ap (λ (c : GroupCache). slice_index_or c.slots (number % GROUP_NUMBERS) first_slot) (cache_other m g (number / GROUP_NUMBERS) cache differ)
     ]
 
@@ -139,13 +139,13 @@ slots_copied m g number =
     let cache : GroupCache = record { slots = map copied_slot (cache_at m g).slots; holder = (cache_at m g).holder } in
     elim (cases_eq (number / GROUP_NUMBERS) g) [
       | inl same ↦ elim (cases_lt g (length m.groups)) [
-          | inl low ↦ inl (
-              ap (λ h. slice_index_or (cache_at (with_cache g cache m) h).slots (number % GROUP_NUMBERS) first_slot) same
-              ∙ ap (λ (c : GroupCache). slice_index_or c.slots (number % GROUP_NUMBERS) first_slot) (cache_same m g cache low)
-              ∙ read_copied (cache_at m g).slots (number % GROUP_NUMBERS)
-              ∙ ap (λ h. copied_slot (slice_index_or (cache_at m h).slots (number % GROUP_NUMBERS) first_slot)) (sym same))
-          | inr high ↦ inr (ap (λ (n : Memory). slot_at n number) (with_cache_past m g cache high))
-        ]
+        | inl low ↦ inl (
+            ap (λ h. slice_index_or (cache_at (with_cache g cache m) h).slots (number % GROUP_NUMBERS) first_slot) same
+            ∙ ap (λ (c : GroupCache). slice_index_or c.slots (number % GROUP_NUMBERS) first_slot) (cache_same m g cache low)
+            ∙ read_copied (cache_at m g).slots (number % GROUP_NUMBERS)
+            ∙ ap (λ h. copied_slot (slice_index_or (cache_at m h).slots (number % GROUP_NUMBERS) first_slot)) (sym same))
+        | inr high ↦ inr (ap (λ (n : Memory). slot_at n number) (with_cache_past m g cache high))
+      ]
       | inr differ ↦ inr (ap (λ (c : GroupCache). slice_index_or c.slots (number % GROUP_NUMBERS) first_slot) (cache_other m g (number / GROUP_NUMBERS) cache differ))
     ]
 
@@ -154,18 +154,18 @@ pub slots_put : (m : Memory) (number other : ℕ) (slot : Slot) → ((other ≡ 
 slots_put m number other slot =
     elim (cases_eq other number) [
       | inl same ↦ elim (cases_lt (number / GROUP_NUMBERS) (length m.groups)) [
-          | inl group ↦ elim (cases_lt (number % GROUP_NUMBERS) (length (cache_at m (number / GROUP_NUMBERS)).slots)) [
-              | inl place ↦ inl (same, ap (λ n. slot_at (with_slot number slot m) n) same ∙ slot_same m number slot (record { group = group; slot = place }))
-              | inr high ↦ inr (
-                  ap (λ n. slot_at (with_slot number slot m) n) same
-                  ∙ ap (λ (c : GroupCache). slice_index_or c.slots (number % GROUP_NUMBERS) first_slot) (cache_same m (number / GROUP_NUMBERS) (slots_set m number slot) group)
-                  ∙ read_past (slice_set (cache_at m (number / GROUP_NUMBERS)).slots (number % GROUP_NUMBERS) slot) (number % GROUP_NUMBERS) first_slot
-                  (let long = set-length (cache_at m (number / GROUP_NUMBERS)).slots (number % GROUP_NUMBERS) slot in omega (arith, long, high))
-                  ∙ sym (read_past (cache_at m (number / GROUP_NUMBERS)).slots (number % GROUP_NUMBERS) first_slot high)
-                  ∙ ap (λ n. slot_at m n) (sym same))
-            ]
-          | inr high ↦ inr (ap (λ (n : Memory). slot_at n other) (with_cache_past m (number / GROUP_NUMBERS) (slots_set m number slot) high))
+        | inl group ↦ elim (cases_lt (number % GROUP_NUMBERS) (length (cache_at m (number / GROUP_NUMBERS)).slots)) [
+          | inl place ↦ inl (same, ap (λ n. slot_at (with_slot number slot m) n) same ∙ slot_same m number slot (record { group = group; slot = place }))
+          | inr high ↦ inr (
+              ap (λ n. slot_at (with_slot number slot m) n) same
+              ∙ ap (λ (c : GroupCache). slice_index_or c.slots (number % GROUP_NUMBERS) first_slot) (cache_same m (number / GROUP_NUMBERS) (slots_set m number slot) group)
+              ∙ read_past (slice_set (cache_at m (number / GROUP_NUMBERS)).slots (number % GROUP_NUMBERS) slot) (number % GROUP_NUMBERS) first_slot
+              (let long = set-length (cache_at m (number / GROUP_NUMBERS)).slots (number % GROUP_NUMBERS) slot in omega (arith, long, high))
+              ∙ sym (read_past (cache_at m (number / GROUP_NUMBERS)).slots (number % GROUP_NUMBERS) first_slot high)
+              ∙ ap (λ n. slot_at m n) (sym same))
         ]
+        | inr high ↦ inr (ap (λ (n : Memory). slot_at n other) (with_cache_past m (number / GROUP_NUMBERS) (slots_set m number slot) high))
+      ]
       | inr apart ↦ inr (slot_other m number other slot apart)
     ]
 

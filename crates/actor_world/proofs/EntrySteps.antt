@@ -115,34 +115,42 @@ pub entry_kept : (entries : List Entry) (froms : List ℕ) (entry : Entry) (begu
 entry_kept entries froms entry begun b begin made None long foreign has = λ j other answer at began.
     elim (get_push entries entry _ j at) [
       | inl here ↦ elim (get_push froms begun begin j began) [
-          | inl before ↦ has j other answer here.1 before.1
-          | inr last ↦ let low = here.0 in let high = last.0 in absurd (omega (arith, low, high, long))
-        ]
+        | inl before ↦ has j other answer here.1 before.1
+        | inr last ↦ let low = here.0 in let high = last.0 in absurd (omega (arith, low, high, long))
+      ]
       | inr last ↦ foreign other answer (same_Some entry _ last.1)
     ]
-entry_kept entries froms entry begun b begin made (Some reply) long foreign (i, at_i, began_i, only) =
-    (i, get_kept entries entry _ i at_i, get_kept froms begun begin i began_i, λ j other answer at began.
+entry_kept entries froms entry begun b begin made (Some reply) long foreign (i, at_i, began_i, only) = (
+  i,
+  get_kept entries entry _ i at_i,
+  get_kept froms begun begin i began_i,
+  λ j other answer at began.
       elim (get_push entries entry _ j at) [
         | inl here ↦ elim (get_push froms begun begin j began) [
-            | inl before ↦ only j other answer here.1 before.1
-            | inr last ↦ let low = here.0 in let high = last.0 in absurd (omega (arith, low, high, long))
-          ]
+          | inl before ↦ only j other answer here.1 before.1
+          | inr last ↦ let low = here.0 in let high = last.0 in absurd (omega (arith, low, high, long))
+        ]
         | inr last ↦ absurd (foreign other answer (same_Some entry _ last.1))
-      ])
+      ],
+)
 
 -- the call's own entry
 pub entry_made : (entries : List Entry) (froms : List ℕ) (b begin : ℕ) (made : Call) (answer : Reply) → length froms ≡ length entries → HasEntry entries froms b begin made None
     → HasEntry (entries ++ record { actor = b; event = Called made answer } ∷ []) (froms ++ begin ∷ []) b begin made (Some answer)
 entry_made entries froms b begin made answer long none =
-    let entry : Entry = record { actor = b; event = Called made answer } in
-    (length entries, get_last entries entry, subst (λ n. slice_get (froms ++ begin ∷ []) n ≡ Some begin) long (get_last froms begin), λ j other reply at began.
-      elim (get_push entries entry _ j at) [
-        | inl here ↦ elim (get_push froms begin begin j began) [
-            | inl before ↦ absurd (none j other reply here.1 before.1)
-            | inr last ↦ let low = here.0 in let high = last.0 in absurd (omega (arith, low, high, long))
-          ]
-        | inr last ↦ last.0
-      ])
+    let entry : Entry = record { actor = b; event = Called made answer } in (
+      length entries,
+      get_last entries entry,
+      subst (λ n. slice_get (froms ++ begin ∷ []) n ≡ Some begin) long (get_last froms begin),
+      λ j other reply at began.
+          elim (get_push entries entry _ j at) [
+            | inl here ↦ elim (get_push froms begin begin j began) [
+              | inl before ↦ absurd (none j other reply here.1 before.1)
+              | inr last ↦ let low = here.0 in let high = last.0 in absurd (omega (arith, low, high, long))
+            ]
+            | inr last ↦ last.0
+          ],
+    )
 
 freed_not : (a b : ℕ) (key : Key) → IsNotOf b (record { actor = a; event = Freed key })
 freed_not a b key other answer is = let clash : Freed key ≡ Called other answer = ap (λ (e : Entry). e.event) is in freed_called key other answer clash
@@ -165,7 +173,7 @@ own_entry h a made begin was is _ long (Answers answer _ none some) has =
 own_entry h a made begin was is _ long (Frees key _ none gone) has =
     subst (λ (o : Option Reply). HasEntry (h.entries ++ record { actor = a; event = Freed key } ∷ []) (h.froms ++ begin ∷ []) a begin made o) (sym gone)
     (entry_kept h.entries h.froms (record { actor = a; event = Freed key }) begin a begin made None long (freed_not a a key)
-      (subst (λ (o : Option Reply). HasEntry h.entries h.froms a begin made o) none has))
+    (subst (λ (o : Option Reply). HasEntry h.entries h.froms a begin made o) none has))
 
 -- the call that ends
 pub ended_entry : (h : History) (a : ℕ) (made : Call) (begin : ℕ) (was : Option Reply) (event : Option Event) → length h.froms ≡ length h.entries → EndTurn made was event
@@ -227,5 +235,5 @@ ended_by_step laws face tells start a old new inv step ends =
     let s = stepped laws face tells start a old new inv step in
     let d : Doing = step.doing in
     let done = ended_kept start old.history old.memory a d.call d.place d.«from» (actor_at old.memory a).queue s.later s.event s.next s.memory
-        (turn_from start old.history new.history old.memory new.memory inv a d step.inside s) (subst (λ (m : Memory). (actor_at m a).doing ≡ None) s.memory_is ends) in
+    (turn_from start old.history new.history old.memory new.memory inv a d step.inside s) (subst (λ (m : Memory). (actor_at m a).doing ≡ None) s.memory_is ends) in
     (done.0, subst (λ (h : History). HasEntry h.entries h.froms a d.«from» d.call (Some done.0)) (sym s.history_is) done.1)

@@ -23,9 +23,9 @@ times-range a (suc n) b low high =
     elim (b == a) as (λ c. b == a ≡ c → 1 ≤ (if c then 1 else 0) + times b (range_with_len (a + 1) n)) [
       | true ↦ λ is. omega arith
       | false ↦ λ is. elim (cases_lt a b) [
-          | inl below ↦ let rest = times-range (a + 1) n b (omega arith) (omega arith) in omega (arith, rest)
-          | inr above ↦ let same : (b == a) ≡ true = eq-eqb b a (omega arith) in absurd (true-false same is)
-        ]
+        | inl below ↦ let rest = times-range (a + 1) n b (omega arith) (omega arith) in omega (arith, rest)
+        | inr above ↦ let same : (b == a) ≡ true = eq-eqb b a (omega arith) in absurd (true-false same is)
+      ]
     ] refl
   where
     true-false : (b == a) ≡ true → (b == a) ≡ false → ⊥

@@ -53,14 +53,13 @@ install_of made t m queue at number is holds dead = absurd (none-some number is)
 module _ (laws : Laws) (start : Table) (h : History) (m : Memory) (inv : Within start h m) (a : ℕ) (key : Key) (row : Row)
     (held : IsHeld h.entries a (Some key)) (is : row_of h.table key ≡ Some row) (some : 1 ≤ row.opens) (dead : (cached_word m key.number).live ≡ false)
     (no_due : due_of_actor (actor_at m a) ≡ nothing) where
-
   not_doing : (b : ℕ) → b ≢ a → (queue : List Key) (doing : Option Doing) → due_number (due_of_doing queue doing) ≡ Some key.number → DoingIsRight start h m b queue doing → ⊥
   not_doing b apart queue None due right = none-some key.number due
   not_doing b apart queue (Some d) due right =
       let new = install_of d.call h.table m (first_key queue) d.place key.number due right.due dead in
       let life = one_life h.table key.number key.generation new.0.generation row new.3 is (ap (λ n. row_of h.table (record { number = n; generation = new.0.generation })) (sym new.2) ∙ new.4) in
       let same_row : row ≡ new.3 = same_Some row new.3 (sym is ∙ ap (λ g. row_of h.table (record { number = key.number; generation = g })) life
-          ∙ ap (λ n. row_of h.table (record { number = n; generation = new.0.generation })) (sym new.2) ∙ new.4) in
+      ∙ ap (λ n. row_of h.table (record { number = n; generation = new.0.generation })) (sym new.2) ∙ new.4) in
       let held_new : IsHeld h.entries b (Some new.0) = subst (λ p. IsHeld h.entries b (key_made p)) new.1 right.made in
       let key_is : new.0 ≡ key = λ i. record { number = new.2 i; generation = sym life i } in
       let both = two_hold laws start h.entries h.table inv.table inv.legal a b key row apart held (subst (λ k. 0 < holds h.entries b k) key_is held_new) is in

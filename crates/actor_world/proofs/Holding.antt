@@ -65,7 +65,7 @@ two_hold laws start entries t ok legal a b key row apart held also is =
     let permits : KeyReplies t (row_of t key) (call.CloseKey key) reply.Done = subst (λ (o : Option Row). KeyReplies t o (call.CloseKey key) reply.Done) (sym some.1) some.2 in
     let later = legal_push start entries t (with_changed t key (row_of t key) (call.CloseKey key)) entry legal (permits, refl) also in
     let still = laws.held start (with_changed t key (row_of t key) (call.CloseKey key)) (entries ++ entry ∷ []) a key ok later
-        (let same = holds_other entries entry a key apart in omega (arith, same, held)) in
+    (let same = holds_other entries entry a key apart in omega (arith, same, held)) in
     let new : Row = row_after t row (call.CloseKey key) in
     let row_is : row_of (with_changed t key (row_of t key) (call.CloseKey key)) key ≡ Some new =
     ap (λ (o : Option Row). row_of (with_changed t key o (call.CloseKey key)) key) is ∙ row_same t key row new is in

@@ -41,7 +41,7 @@ kill_head_turn : (t : Table) (m : Memory) (a : ℕ) (begin : ℕ) (key : Key) (k
     → IfSome (head_move key keys place.KillHead a (record { call = call.Gc; place = place.KillHead; «from» = begin }) t m) (Turned t m a call.Gc place.KillHead begin (key ∷ keys))
 kill_head_turn t m a begin key keys queue_is due =
     subst (λ (o : Option Word). Turned t m a call.Gc place.KillHead begin (key ∷ keys)
-      (silent (moved_to a (record { call = call.Gc; place = place.KillHead; «from» = begin }) place.Pass (put_word key.number o m))))
+    (silent (moved_to a (record { call = call.Gc; place = place.KillHead; «from» = begin }) place.Pass (put_word key.number o m))))
     (sym (killed_word key.generation (cached_word m key.number) (kill_awaits t m key due)))
     (goes _ _ _ (kills_head key keys due) queue_is)
 

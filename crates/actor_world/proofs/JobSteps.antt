@@ -189,10 +189,12 @@ turn_job : {D : Type 0} (a : ℕ) (d : Doing) (made : Call) (answer : Option Rep
 turn_job a d made None onward old new low turn is =
     let own : (actor_at new.memory a).doing ≡ Some (record { call = d.call; place = onward; «from» = d.«from» }) =
     ap (λ (m : Memory). (actor_at m a).doing) turn.memory ∙ ap (λ (x : Actor). x.doing) (read_same old.memory.actors a _ idle_actor low) in
-    subst (λ (o : Option ℕ). JobOfHolder (state_of new.store) new.history new.memory new.first_commit new.store.job o) (sym turn.holder)
-    (is.0, subst (λ (o : Option Doing). JobOfDoing (state_of new.store) new.first_commit new.history.entries new.store.job o) (sym own)
-      (subst (λ (h : History). JobAt (state_of new.store) new.first_commit h.entries new.store.job d.«from» onward) (sym turn.history)
-        (subst (λ n. JobAt (state_of new.store) n old.history.entries new.store.job d.«from» onward) (sym turn.first_commit) is.1)))
+    subst (λ (o : Option ℕ). JobOfHolder (state_of new.store) new.history new.memory new.first_commit new.store.job o) (sym turn.holder) (
+      is.0,
+      subst (λ (o : Option Doing). JobOfDoing (state_of new.store) new.first_commit new.history.entries new.store.job o) (sym own)
+          (subst (λ (h : History). JobAt (state_of new.store) new.first_commit h.entries new.store.job d.«from» onward) (sym turn.history)
+          (subst (λ n. JobAt (state_of new.store) n old.history.entries new.store.job d.«from» onward) (sym turn.first_commit) is.1)),
+    )
 turn_job a d made (Some answer) onward old new low turn is =
     subst (λ (o : Option ℕ). JobOfHolder (state_of new.store) new.history new.memory new.first_commit new.store.job o) (sym turn.holder) is
 
@@ -204,7 +206,7 @@ turn_right a d made answer onward old new low turn covered more covers is = reco
   job = turn_job a d made answer onward old new low turn is;
   covered = subst (λ (h : History). Covers (durable_changes new.first_commit (state_of new.store)) h.entries) (sym turn.history)
       (subst (λ n. Covers (durable_changes n (state_of new.store)) (told_if a d.«from» (answered made answer) old.history).entries) (sym turn.first_commit)
-        (covers_more old.history a d.«from» _ (durable_changes old.first_commit (state_of new.store)) (answered made answer) covered (omega (arith, more)) (answer_covers _ made answer covers)));
+      (covers_more old.history a d.«from» _ (durable_changes old.first_commit (state_of new.store)) (answered made answer) covered (omega (arith, more)) (answer_covers _ made answer covers)));
 }
 
 -- ---- steps of a sync and a home
@@ -294,14 +296,14 @@ sync_job face tells start a d place.Take old new inv inside here step =
     (take_turn old.history a old.first_commit d.«from» s new.store.job (down_count s.stage) s.list refl refl rest step.job (omega (arith, reach, long, durable)))
 sync_job face tells start a d place.Force old new inv inside here step =
     let at = subst (λ p. JobAt (state_of old.store) old.first_commit old.history.entries old.store.job d.«from» p) here
-        (job_fits tells start a d old inv inside (has_lock old.holder old.memory a d inside inv.log_lock (ap lies_in_log here))) in
+    (job_fits tells start a d old inv inside (has_lock old.holder old.memory a d inside inv.log_lock (ap lies_in_log here))) in
     let moves = step_moves face step.result old.store new.store step.step at.2 in
     let steps = job_steps face step.result old.store new.store step.step at.2 (inl at.0) in
     turn_right a d call.Sync (progress_answer call.Sync old.first_commit (state_of new.store) step.result) d.place old new (in_list old.memory a d inside) step.turn inv.job.covered
     (moves_durable _ _ _ _ moves) (sync_covers old.first_commit (state_of new.store) step.result)
     (subst (λ p. TurnJob (progress_answer call.Sync old.first_commit (state_of new.store) step.result) (state_of new.store) old.first_commit
-        (told_if a d.«from» (answered call.Sync (progress_answer call.Sync old.first_commit (state_of new.store) step.result)) old.history).entries new.store.job d.«from» p) (sym here)
-      (force_turn old.history a old.first_commit d.«from» (state_of old.store) (state_of new.store) old.store.job new.store.job step.result at inv.commits.first steps moves))
+    (told_if a d.«from» (answered call.Sync (progress_answer call.Sync old.first_commit (state_of new.store) step.result)) old.history).entries new.store.job d.«from» p) (sym here)
+    (force_turn old.history a old.first_commit d.«from» (state_of old.store) (state_of new.store) old.store.job new.store.job step.result at inv.commits.first steps moves))
 sync_job face tells start a d _ old new inv inside here step = absurd step
 
 home_job : {D : Type 0} (face : DiskFace D) (tells : Telling) (start : Table) (a : ℕ) (d : Doing) (at : Place) (old new : World D) → Invariant tells start old
@@ -312,17 +314,17 @@ home_job face tells start a d place.TakeLog old new inv inside here step =
     (let durable = ap (λ (x : State). x.durable) step.state in omega (arith, durable))
     (home_covers _ (down_count s.stage) s.dirty)
     (subst (λ (x : State). TurnJob (home_answer s) x old.first_commit (told_if a d.«from» (answered call.Home (home_answer s)) old.history).entries new.store.job d.«from» place.WriteHome) (sym step.state)
-      (home_turn old.history a old.first_commit d.«from» s new.store.job (down_count s.stage) s.dirty refl (free_rest tells start old inv step.free) step.job))
+    (home_turn old.history a old.first_commit d.«from» s new.store.job (down_count s.stage) s.dirty refl (free_rest tells start old inv step.free) step.job))
 home_job face tells start a d place.WriteHome old new inv inside here step =
     let at = subst (λ p. JobAt (state_of old.store) old.first_commit old.history.entries old.store.job d.«from» p) here
-        (job_fits tells start a d old inv inside (has_lock old.holder old.memory a d inside inv.log_lock (ap lies_in_log here))) in
+    (job_fits tells start a d old inv inside (has_lock old.holder old.memory a d inside inv.log_lock (ap lies_in_log here))) in
     let moves = step_moves face step.result old.store new.store step.step at.1 in
     let steps = job_steps face step.result old.store new.store step.step at.1 (inr at.0) in
     turn_right a d call.Home (progress_answer call.Home old.first_commit (state_of new.store) step.result) d.place old new (in_list old.memory a d inside) step.turn inv.job.covered
     (moves_durable _ _ _ _ moves) (write_covers _ old.first_commit (state_of new.store) step.result)
     (subst (λ p. TurnJob (progress_answer call.Home old.first_commit (state_of new.store) step.result) (state_of new.store) old.first_commit
-        (told_if a d.«from» (answered call.Home (progress_answer call.Home old.first_commit (state_of new.store) step.result)) old.history).entries new.store.job d.«from» p) (sym here)
-      (write_turn old.history a old.first_commit d.«from» (state_of old.store) (state_of new.store) old.store.job new.store.job step.result at steps))
+    (told_if a d.«from» (answered call.Home (progress_answer call.Home old.first_commit (state_of new.store) step.result)) old.history).entries new.store.job d.«from» p) (sym here)
+    (write_turn old.history a old.first_commit d.«from» (state_of old.store) (state_of new.store) old.store.job new.store.job step.result at steps))
 home_job face tells start a d _ old new inv inside here step = absurd step
 
 -- ---- steps of groups
@@ -371,34 +373,36 @@ group_job laws {D = D} tells start a d old new inv inside log step =
     let actors = effect_actors (effect_of inv.cached s.turn) in
     let x : Actor = after_turn d.call d.«from» s.next s.later in
     let kept : (holder : Option ℕ) → old.holder ≡ holder → JobOfHolder (state_of old.store) old.history old.memory old.first_commit old.store.job holder
-        → JobOfHolder (state_of old.store) (told_if a d.«from» s.event old.history) (with_actor a x s.memory) old.first_commit old.store.job holder =
-        λ holder. elim holder as (λ (o : Option ℕ). old.holder ≡ o → JobOfHolder (state_of old.store) old.history old.memory old.first_commit old.store.job o
-        → JobOfHolder (state_of old.store) (told_if a d.«from» s.event old.history) (with_actor a x s.memory) old.first_commit old.store.job o) [
-          | None ↦ λ is right. right
-          | Some b ↦ λ is right.
-              elim (cases_eq b a) [
-                | inl same ↦
-                    let lies = (inv.log_lock a).0 (is ∙ ap (λ n. Some n) same) in
-                    absurd (not_in_log d.call d.place log (call_of start old.history old.memory inside_world a d inside).stands
-                      (subst (λ (o : Option Doing). IsSomeAnd o (λ (y : Doing). lies_in_log y.place ≡ true)) inside lies))
-                | inr apart ↦
-                    let other : actor_at (with_actor a x s.memory) b ≡ actor_at old.memory b =
-                    read_other s.memory.actors a b x idle_actor apart ∙ ap (λ (xs : List Actor). actor_at (record { actors = xs; groups = old.memory.groups }) b) actors in
-                    (right.0, subst (λ (y : Actor). JobOfDoing (state_of old.store) old.first_commit (told_if a d.«from» s.event old.history).entries old.store.job y.doing) (sym other)
-                      (doing_kept start old.history old.memory inside_world b (state_of old.store) old.first_commit a d.«from» s.event old.store.job (actor_at old.memory b).doing refl right.1))
-              ]
-        ] in
+    → JobOfHolder (state_of old.store) (told_if a d.«from» s.event old.history) (with_actor a x s.memory) old.first_commit old.store.job holder =
+    λ holder. elim holder as (λ (o : Option ℕ). old.holder ≡ o → JobOfHolder (state_of old.store) old.history old.memory old.first_commit old.store.job o
+    → JobOfHolder (state_of old.store) (told_if a d.«from» s.event old.history) (with_actor a x s.memory) old.first_commit old.store.job o) [
+      | None ↦ λ is right. right
+      | Some b ↦ λ is right.
+          elim (cases_eq b a) [
+            | inl same ↦
+                let lies = (inv.log_lock a).0 (is ∙ ap (λ n. Some n) same) in
+                absurd (not_in_log d.call d.place log (call_of start old.history old.memory inside_world a d inside).stands
+                (subst (λ (o : Option Doing). IsSomeAnd o (λ (y : Doing). lies_in_log y.place ≡ true)) inside lies))
+            | inr apart ↦
+                let other : actor_at (with_actor a x s.memory) b ≡ actor_at old.memory b =
+                read_other s.memory.actors a b x idle_actor apart ∙ ap (λ (xs : List Actor). actor_at (record { actors = xs; groups = old.memory.groups }) b) actors in (
+                  right.0,
+                  subst (λ (y : Actor). JobOfDoing (state_of old.store) old.first_commit (told_if a d.«from» s.event old.history).entries old.store.job y.doing) (sym other)
+                      (doing_kept start old.history old.memory inside_world b (state_of old.store) old.first_commit a d.«from» s.event old.store.job (actor_at old.memory b).doing refl right.1),
+                )
+          ]
+    ] in
     record {
       job = subst (λ (st : Store D). JobOfHolder (state_of st) new.history new.memory new.first_commit st.job new.holder) (sym step.store)
           (subst (λ n. JobOfHolder (state_of old.store) new.history new.memory n old.store.job new.holder) (sym step.first_commit)
-            (subst (λ (o : Option ℕ). JobOfHolder (state_of old.store) new.history new.memory old.first_commit old.store.job o) (sym step.holder)
-              (subst (λ (h : History). JobOfHolder (state_of old.store) h new.memory old.first_commit old.store.job old.holder) (sym s.history_is)
-                (subst (λ (m : Memory). JobOfHolder (state_of old.store) (told_if a d.«from» s.event old.history) m old.first_commit old.store.job old.holder) (sym s.memory_is)
-                  (kept old.holder refl inv.job.job)))));
+          (subst (λ (o : Option ℕ). JobOfHolder (state_of old.store) new.history new.memory old.first_commit old.store.job o) (sym step.holder)
+          (subst (λ (h : History). JobOfHolder (state_of old.store) h new.memory old.first_commit old.store.job old.holder) (sym s.history_is)
+          (subst (λ (m : Memory). JobOfHolder (state_of old.store) (told_if a d.«from» s.event old.history) m old.first_commit old.store.job old.holder) (sym s.memory_is)
+          (kept old.holder refl inv.job.job)))));
       covered = subst (λ (st : Store D). Covers (durable_changes new.first_commit (state_of st)) new.history.entries) (sym step.store)
           (subst (λ n. Covers (durable_changes n (state_of old.store)) new.history.entries) (sym step.first_commit)
-            (subst (λ (h : History). Covers (durable_changes old.first_commit (state_of old.store)) h.entries) (sym s.history_is)
-              (covers_more old.history a d.«from» _ _ s.event inv.job.covered (omega arith) (event_covers s.event s.turn _ log))));
+          (subst (λ (h : History). Covers (durable_changes old.first_commit (state_of old.store)) h.entries) (sym s.history_is)
+          (covers_more old.history a d.«from» _ _ s.event inv.job.covered (omega arith) (event_covers s.event s.turn _ log))));
     }
 
 job_of_step : Laws → {D : Type 0} (face : DiskFace D) (tells : Telling) (start : Table) (a : ℕ) (d : Doing) (made : Call) (old new : World D) → Invariant tells start old

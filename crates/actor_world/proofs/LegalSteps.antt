@@ -64,9 +64,11 @@ turn_happens {t = t} (locked_crowded key row is full) = (by_row t key (call.Open
 turn_happens {t = t} (locked_stale key row is awaits) = (by_row t key (call.OpenKey key) reply.Stale (Some row) is awaits, refl)
 turn_happens {t = t} (pins_locked key seen opened) =
     (by_row t key (call.OpenKey key) reply.Done (Some opened.row) opened.row_is (opened.stays, λ full. few_not _ _ opened.pins opened.few full), refl)
-turn_happens {t = t} (installs key dead has) =
-    (by_row t key (call.OpenKey key) reply.Done (Some dead.row) dead.row_is
-      ((λ awaits. linked_not _ dead.links awaits.0), λ full. none_not _ dead.opens full), refl)
+turn_happens {t = t} (installs key dead has) = (
+  by_row t key (call.OpenKey key) reply.Done (Some dead.row) dead.row_is
+      ((λ awaits. linked_not _ dead.links awaits.0), λ full. none_not _ dead.opens full),
+  refl,
+)
 turn_happens {t = t} (unpins key held) = (by_row t key (call.CloseKey key) reply.Done (Some held.row) held.row_is held.some, refl)
 turn_happens (reads key answer can permits) = (permits, refl)
 turn_happens (refuses made key answer is permits none) = (permits, refl)

@@ -84,9 +84,9 @@ pub holder_same : (m : Memory) (g h : ℕ) (cache : GroupCache) → cache.holder
 holder_same m g h cache same =
     elim (cases_eq h g) [
       | inl here ↦ elim (cases_lt g (length m.groups)) [
-          | inl low ↦ ap (λ n. (cache_at (with_cache g cache m) n).holder) here ∙ ap (λ (c : GroupCache). c.holder) (cache_same m g cache low) ∙ same ∙ ap (λ n. (cache_at m n).holder) (sym here)
-          | inr high ↦ ap (λ (n : Memory). (cache_at n h).holder) (with_cache_past m g cache high)
-        ]
+        | inl low ↦ ap (λ n. (cache_at (with_cache g cache m) n).holder) here ∙ ap (λ (c : GroupCache). c.holder) (cache_same m g cache low) ∙ same ∙ ap (λ n. (cache_at m n).holder) (sym here)
+        | inr high ↦ ap (λ (n : Memory). (cache_at n h).holder) (with_cache_past m g cache high)
+      ]
       | inr differ ↦ ap (λ (c : GroupCache). c.holder) (cache_other m g h cache differ)
     ]
 
@@ -164,21 +164,24 @@ own_lock m a old new memory (Keeps is holders) before g =
 own_lock m a old new _ (Takes h can was is) before g =
     elim (cases_eq g h) [
       | inl here ↦ (λ holds. is ∙ ap (λ n. Some n) (sym here), λ lies. ap (λ n. (cache_at (locked a h m) n).holder) here ∙ ap (λ (c : GroupCache). c.holder) (cache_same m h _ can.there))
-      | inr differ ↦
-          (λ holds. absurd (none-some g (sym was ∙ (before g).0 (sym (ap (λ (c : GroupCache). c.holder) (cache_other m h g _ differ)) ∙ holds))),
-            λ lies. absurd (differ (same_Some g h (sym lies ∙ is))))
+      | inr differ ↦ (
+        λ holds. absurd (none-some g (sym was ∙ (before g).0 (sym (ap (λ (c : GroupCache). c.holder) (cache_other m h g _ differ)) ∙ holds))),
+        λ lies. absurd (differ (same_Some g h (sym lies ∙ is))),
+      )
     ]
 own_lock m a old new _ (Gives h was is) before g =
     elim (cases_eq g h) [
-      | inl here ↦
-          (λ holds. elim (cases_lt h (length m.groups)) [
-              | inl low ↦ absurd (none-some a (sym (ap (λ n. (cache_at (unlocked h m) n).holder) here ∙ ap (λ (c : GroupCache). c.holder) (cache_same m h _ low)) ∙ holds))
-              | inr high ↦ absurd (none-some a (sym (ap (λ (c : GroupCache). c.holder) (cache_past m h high)) ∙ (before h).1 was))
-            ],
-            λ lies. absurd (none-some g (sym is ∙ lies)))
-      | inr differ ↦
-          (λ holds. absurd (differ (same_Some g h (sym ((before g).0 (sym (ap (λ (c : GroupCache). c.holder) (cache_other m h g _ differ)) ∙ holds)) ∙ was))),
-            λ lies. absurd (none-some g (sym is ∙ lies)))
+      | inl here ↦ (
+        λ holds. elim (cases_lt h (length m.groups)) [
+          | inl low ↦ absurd (none-some a (sym (ap (λ n. (cache_at (unlocked h m) n).holder) here ∙ ap (λ (c : GroupCache). c.holder) (cache_same m h _ low)) ∙ holds))
+          | inr high ↦ absurd (none-some a (sym (ap (λ (c : GroupCache). c.holder) (cache_past m h high)) ∙ (before h).1 was))
+        ],
+        λ lies. absurd (none-some g (sym is ∙ lies)),
+      )
+      | inr differ ↦ (
+        λ holds. absurd (differ (same_Some g h (sym ((before g).0 (sym (ap (λ (c : GroupCache). c.holder) (cache_other m h g _ differ)) ∙ holds)) ∙ was))),
+        λ lies. absurd (none-some g (sym is ∙ lies)),
+      )
     ]
 
 -- whether another holds a lock stays
@@ -187,20 +190,22 @@ other_lock : (m : Memory) (a b : ℕ) (old new : Option ℕ) (memory : Memory) �
 other_lock m a b old new memory (Keeps is holders) before apart g = (λ holds. sym (holders g) ∙ holds, λ holds. holders g ∙ holds)
 other_lock m a b old new _ (Takes h can was is) before apart g =
     elim (cases_eq g h) [
-      | inl here ↦
-          (λ holds. absurd (apart (same_Some b a (sym holds ∙ (ap (λ n. (cache_at (locked a h m) n).holder) here ∙ ap (λ (c : GroupCache). c.holder) (cache_same m h _ can.there))))),
-            λ holds. absurd (none-some b (sym (ap (λ n. (cache_at m n).holder) here ∙ can.free) ∙ holds)))
+      | inl here ↦ (
+        λ holds. absurd (apart (same_Some b a (sym holds ∙ (ap (λ n. (cache_at (locked a h m) n).holder) here ∙ ap (λ (c : GroupCache). c.holder) (cache_same m h _ can.there))))),
+        λ holds. absurd (none-some b (sym (ap (λ n. (cache_at m n).holder) here ∙ can.free) ∙ holds)),
+      )
       | inr differ ↦ let there = ap (λ (c : GroupCache). c.holder) (cache_other m h g _ differ) in (λ holds. sym there ∙ holds, λ holds. there ∙ holds)
     ]
 other_lock m a b old new _ (Gives h was is) before apart g =
     elim (cases_eq g h) [
       | inl here ↦
-          let held : (cache_at m h).holder ≡ Some a = (before h).1 was in
-          (λ holds. elim (cases_lt h (length m.groups)) [
+          let held : (cache_at m h).holder ≡ Some a = (before h).1 was in (
+            λ holds. elim (cases_lt h (length m.groups)) [
               | inl low ↦ absurd (none-some b (sym (ap (λ n. (cache_at (unlocked h m) n).holder) here ∙ ap (λ (c : GroupCache). c.holder) (cache_same m h _ low)) ∙ holds))
               | inr high ↦ absurd (none-some a (sym (ap (λ (c : GroupCache). c.holder) (cache_past m h high)) ∙ held))
             ],
-            λ holds. absurd (apart (same_Some b a (sym holds ∙ ap (λ n. (cache_at m n).holder) here ∙ held))))
+            λ holds. absurd (apart (same_Some b a (sym holds ∙ ap (λ n. (cache_at m n).holder) here ∙ held))),
+          )
       | inr differ ↦ let there = ap (λ (c : GroupCache). c.holder) (cache_other m h g _ differ) in (λ holds. sym there ∙ holds, λ holds. there ∙ holds)
     ]
 
@@ -209,20 +214,23 @@ pub locks_kept : (m : Memory) (a : ℕ) (made : Call) (at : Place) (begin : ℕ)
     → LockTurn m a (lock_of (Some at) made q) (lock_of next made later) memory
     → (g b : ℕ) → (cache_at (with_actor a (after_turn made begin next later) memory) g).holder ≡ Some b ↔ LiesInGroup g (actor_at (with_actor a (after_turn made begin next later) memory) b)
 locks_kept m a made at begin q later next memory locks actor_is low actors turn g b =
-    let before : (h : ℕ) → (cache_at m h).holder ≡ Some a ↔ (lock_of (Some at) made q ≡ Some h) = λ h.
-        (λ holds. lies_from h (Some at) made begin q (subst (LiesInGroup h) actor_is ((locks h a).0 holds)),
-          λ lies. (locks h a).1 (subst (LiesInGroup h) (sym actor_is) (lies_to h (Some at) made begin q lies))) in
+    let before : (h : ℕ) → (cache_at m h).holder ≡ Some a ↔ (lock_of (Some at) made q ≡ Some h) = λ h. (
+      λ holds. lies_from h (Some at) made begin q (subst (LiesInGroup h) actor_is ((locks h a).0 holds)),
+      λ lies. (locks h a).1 (subst (LiesInGroup h) (sym actor_is) (lies_to h (Some at) made begin q lies)),
+    ) in
     elim (cases_eq b a) [
       | inl here ↦
           let own = own_lock m a (lock_of (Some at) made q) (lock_of next made later) memory turn before g in
           let there : actor_at (with_actor a (after_turn made begin next later) memory) b ≡ after_turn made begin next later =
-          ap (λ n. actor_at (with_actor a (after_turn made begin next later) memory) n) here ∙ read_same memory.actors a (after_turn made begin next later) idle_actor low in
-          (λ holds. subst (LiesInGroup g) (sym there) (lies_to g next made begin later (own.0 (holds ∙ ap (λ n. Some n) here))),
-            λ lies. own.1 (lies_from g next made begin later (subst (LiesInGroup g) there lies)) ∙ ap (λ n. Some n) (sym here))
+          ap (λ n. actor_at (with_actor a (after_turn made begin next later) memory) n) here ∙ read_same memory.actors a (after_turn made begin next later) idle_actor low in (
+            λ holds. subst (LiesInGroup g) (sym there) (lies_to g next made begin later (own.0 (holds ∙ ap (λ n. Some n) here))),
+            λ lies. own.1 (lies_from g next made begin later (subst (LiesInGroup g) there lies)) ∙ ap (λ n. Some n) (sym here),
+          )
       | inr apart ↦
           let other = other_lock m a b (lock_of (Some at) made q) (lock_of next made later) memory turn before apart g in
           let there : actor_at (with_actor a (after_turn made begin next later) memory) b ≡ actor_at m b =
-          read_other memory.actors a b (after_turn made begin next later) idle_actor apart ∙ ap (λ (xs : List Actor). actor_at (record { actors = xs; groups = m.groups }) b) actors in
-          (λ holds. subst (LiesInGroup g) (sym there) ((locks g b).0 (other.0 holds)),
-            λ lies. other.1 ((locks g b).1 (subst (LiesInGroup g) there lies)))
+          read_other memory.actors a b (after_turn made begin next later) idle_actor apart ∙ ap (λ (xs : List Actor). actor_at (record { actors = xs; groups = m.groups }) b) actors in (
+            λ holds. subst (LiesInGroup g) (sym there) ((locks g b).0 (other.0 holds)),
+            λ lies. other.1 ((locks g b).1 (subst (LiesInGroup g) there lies)),
+          )
     ]

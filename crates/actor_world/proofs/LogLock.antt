@@ -193,11 +193,11 @@ group_lock : Laws → {D : Type 0} (tells : Telling) (start : Table) (a : ℕ) (
 group_lock laws tells start a d old new inv inside log right step =
     let s = group_step laws tells start a d old new inv inside step in
     let was : LiesInLog (actor_at old.memory a) → ⊥ = λ lies.
-        not_in_log d.call d.place log (call_of start old.history old.memory inv a d inside).stands
-        (subst (λ (o : Option Doing). IsSomeAnd o (λ (x : Doing). lies_in_log x.place ≡ true)) inside lies) in
+    not_in_log d.call d.place log (call_of start old.history old.memory inv a d inside).stands
+    (subst (λ (o : Option Doing). IsSomeAnd o (λ (x : Doing). lies_in_log x.place ≡ true)) inside lies) in
     subst (λ (m : Memory). LockIsRight new.holder m) (sym s.memory_is)
     (subst (λ (o : Option ℕ). LockIsRight o (with_actor a (after_turn d.call d.«from» s.next s.later) s.memory)) (sym step.holder)
-      (lock_stays old.holder old.memory a _ s.memory (effect_actors (effect_of inv.cached s.turn)) (in_list old.memory a d inside) right was (next_not s.next d.«from» log s.turn)))
+    (lock_stays old.holder old.memory a _ s.memory (effect_actors (effect_of inv.cached s.turn)) (in_list old.memory a d inside) right was (next_not s.next d.«from» log s.turn)))
 
 lock_of_step : Laws → {D : Type 0} (face : DiskFace D) (tells : Telling) (start : Table) (a : ℕ) (d : Doing) (made : Call) (old new : World D) → Within start old.history old.memory
     → (actor_at old.memory a).doing ≡ Some d → d.call ≡ made → LockIsRight old.holder old.memory → StepOf face tells a d made old new → LockIsRight new.holder new.memory

@@ -119,7 +119,7 @@ look_turn laws start h m inv a queue begin queue_is key right row is sight.Await
     goes _ _ m (locked_stale key row is (awaits_row h.table m key row is right (sees_awaits key.generation (cached_word m key.number) seen))) queue_is
 look_turn laws start h m inv a queue begin queue_is key right row is sight.Other seen =
     goes None _ m (locked_installs key row is
-      (not_live laws h.table m key row (table_now laws start h m inv) is right (sees_other key.generation (cached_word m key.number) seen))) queue_is
+    (not_live laws h.table m key row (table_now laws start h m inv) is right (sees_other key.generation (cached_word m key.number) seen))) queue_is
 
 pub pin_locked_turn : (start : Table) (h : History) (m : Memory) → Within start h m → (a : ℕ) (queue : List Key) (begin : ℕ) → (actor_at m a).queue ≡ queue → (key : Key) (seen : Word)
     → sight_of key.generation seen ≡ sight.Open → (row : Row) → row_of h.table key ≡ Some row

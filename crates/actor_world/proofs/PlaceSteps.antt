@@ -328,7 +328,7 @@ places_kept start h m a made at begin q later event next memory facts turn b d i
           let there : actor_at (with_actor a x memory) b ≡ x = ap (λ n. actor_at (with_actor a x memory) n) same ∙ read_same memory.actors a x idle_actor low in
           subst (λ (y : Actor). StandsRight (told_if a begin event h) (with_actor a x memory) b y.queue d) (sym there)
           (subst (λ n. StandsRight (told_if a begin event h) (with_actor a x memory) n x.queue d) (sym same)
-            (own_place start h m a made at begin q later event next memory facts turn count d (sym (ap (λ (y : Actor). y.doing) there) ∙ inside)))
+          (own_place start h m a made at begin q later event next memory facts turn count d (sym (ap (λ (y : Actor). y.doing) there) ∙ inside)))
       | inr apart ↦
           let there : actor_at (with_actor a x memory) b ≡ actor_at m b = read_other memory.actors a b x idle_actor apart ∙ ap (λ (xs : List Actor). actor_at (record { actors = xs; groups = m.groups }) b) actors in
           let right = call_of start h m turn.inv b d (sym (ap (λ (y : Actor). y.doing) there) ∙ inside) in

@@ -100,7 +100,7 @@ prepare_stays t g number ok low =
       | inl same ↦
           subst (λ h. StaysOrComes (inode_in (group_at t h) (number % GROUP_NUMBERS)) (inode_in (group_at (prepare t g) h) (number % GROUP_NUMBERS))) (sym same)
           (subst (λ group. StaysOrComes (inode_in (group_at t g) (number % GROUP_NUMBERS)) (inode_in group (number % GROUP_NUMBERS))) (sym (group_same t g ready low))
-            (prepared_stays t.blocks g (group_at t g) (number % GROUP_NUMBERS) (group_ascends t g ok)))
+          (prepared_stays t.blocks g (group_at t g) (number % GROUP_NUMBERS) (group_ascends t g ok)))
       | inr differ ↦ inl (ap (λ group. inode_in group (number % GROUP_NUMBERS)) (group_other t g (number / GROUP_NUMBERS) ready differ))
     ]
 
@@ -137,7 +137,6 @@ pub record MadeRow (t : Table) (g : ℕ) (key : Key) (links : ℕ) : Type 0 wher
   pub row : row_of (with_row (prepare t g) key (made_row links)) key ≡ Some (made_row links)
 
 module _ (free : LowestIsFree) (t : Table) (g : ℕ) (key : Key) (links : ℕ) (next : IsNextKey t g key) (ok : IsTable (with_row (prepare t g) key (made_row links))) where
-
   made_group : key.number / GROUP_NUMBERS ≡ g
   unfolding with_inode
   made_group =

@@ -20,7 +20,6 @@ use Rattle.actor_world.proofs.Waits.{group_takes_none}
 use Rattle.actor_world.proofs.Within.{Within}
 
 module _ (a begin : ℕ) (t : Table) (m : Memory) where
-
   open_moves : (key : Key) (at : Place) → stands_at (call.OpenKey key) at ≡ true → IsSome (open_move key at a (record { call = call.OpenKey key; place = at; «from» = begin }) t m)
   open_moves key place.Load stands = refl
   open_moves key (place.Pin seen) stands = refl
@@ -124,7 +123,7 @@ can_step start h m inv a d inside log free =
     let right = call_of start h m inv a d inside in
     subst (λ (o : Option Doing). IsSome (doing_move o a h.table m)) (sym inside)
     (free_move (waits_in_group (actor_at m a).queue d m) (call_move d.call a d h.table m) free
-      (call_moves a d.«from» h.table m start h (group_of_call (actor_at m a).queue d.call) d.call d.place log right.stands right.keeps))
+    (call_moves a d.«from» h.table m start h (group_of_call (actor_at m a).queue d.call) d.call d.place log right.stands right.keeps))
 
 -- a call that waits for a holder has no step
 waits_move : (waits : Option ℕ) (o : Option Move) (b : ℕ) → waits ≡ Some b → (if is_some waits then None else o) ≡ None

@@ -51,7 +51,7 @@ pub change_turn : (t : Table) (m : Memory) (a : ℕ) (queue : List Key) (begin :
 change_turn t m a queue begin queue_is made key answer is permits =
     let d : Doing = record { call = made; place = place.Change; «from» = begin } in
     let Goal : Reply → Bool → Type 0 = λ r b. Turned t m a made place.Change begin queue
-        (answers d r (moved_to a d (place_after_change made r (links_of (row_of t key))) (if b then make_dirty key.number m else m))) in
+    (answers d r (moved_to a d (place_after_change made r (links_of (row_of t key))) (if b then make_dirty key.number m else m))) in
     elim (changed made answer) as (λ b. changed made answer ≡ b → Goal answer b) [
       | true ↦ λ done.
           let done_is : answer ≡ reply.Done = done_or_not t made key answer is done in
@@ -83,7 +83,7 @@ pub kill_turn : (t : Table) (m : Memory) (a : ℕ) (queue : List Key) (begin : �
     → IfSome (room_move g (place.Kill key others) a (record { call = made; place = place.Kill key others; «from» = begin }) t m) (Turned t m a made (place.Kill key others) begin queue)
 kill_turn t m a queue begin queue_is made g key others is due =
     subst (λ (o : Option Word). Turned t m a made (place.Kill key others) begin queue
-      (silent (moved_to a (record { call = made; place = place.Kill key others; «from» = begin }) (with_rows_to_free others) (put_word key.number o m))))
+    (silent (moved_to a (record { call = made; place = place.Kill key others; «from» = begin }) (with_rows_to_free others) (put_word key.number o m))))
     (sym (killed_word key.generation (cached_word m key.number) (kill_awaits t m key due)))
     (goes _ _ _ (kills made g key others is due) queue_is)
 
@@ -97,7 +97,7 @@ pub room_turn : (t : Table) (m : Memory) (a : ℕ) (queue : List Key) (begin : �
     → group_of_call queue made ≡ Some g → (at : Place) → RoomFacts t m queue made at
     → IfSome (room_move g at a (record { call = made; place = at; «from» = begin }) t m) (Turned t m a made at begin queue)
 room_turn t m a queue begin queue_is made g is group place.LockShort facts = goes _ _ _ (locks_short made g is (facts.lock g is refl)) queue_is
-room_turn t m a queue begin queue_is made g is group (place.Free key others) facts = 
+room_turn t m a queue begin queue_is made g is group (place.Free key others) facts =
     let free = facts.free key others refl in
     goes _ _ _ (frees_one made g key others is (same_Some (group_number key) g (free.1 ∙ group)) free.0) queue_is
 room_turn t m a queue begin queue_is made g is group (place.Kill key others) facts = kill_turn t m a queue begin queue_is made g key others is (facts.kill key others refl)

@@ -50,9 +50,9 @@ sees_open generation word =
     elim (can_open generation word) as (λ b. (if b then Open else if is_crowded generation word then Crowded else if is_awaiting generation word then Awaits else Other) ≡ Open → b ≡ true) [
       | true ↦ λ is. refl
       | false ↦ elim (is_crowded generation word) as (λ c. (if c then Crowded else if is_awaiting generation word then Awaits else Other) ≡ Open → false ≡ true) [
-          | true ↦ λ is. cc
-          | false ↦ elim (is_awaiting generation word) as (λ w. (if w then Awaits else Other) ≡ Open → false ≡ true) [ true ↦ λ is. cc | false ↦ λ is. cc ]
-        ]
+        | true ↦ λ is. cc
+        | false ↦ elim (is_awaiting generation word) as (λ w. (if w then Awaits else Other) ≡ Open → false ≡ true) [ true ↦ λ is. cc | false ↦ λ is. cc ]
+      ]
     ]
 
 pub sees_crowded : (generation : ℕ) (word : Word) → sight_of generation word ≡ Crowded → is_crowded generation word ≡ true
@@ -60,9 +60,9 @@ sees_crowded generation word =
     elim (can_open generation word) as (λ b. (if b then Open else if is_crowded generation word then Crowded else if is_awaiting generation word then Awaits else Other) ≡ Crowded → is_crowded generation word ≡ true) [
       | true ↦ λ is. cc
       | false ↦ elim (is_crowded generation word) as (λ c. (if c then Crowded else if is_awaiting generation word then Awaits else Other) ≡ Crowded → c ≡ true) [
-          | true ↦ λ is. refl
-          | false ↦ elim (is_awaiting generation word) as (λ w. (if w then Awaits else Other) ≡ Crowded → false ≡ true) [ true ↦ λ is. cc | false ↦ λ is. cc ]
-        ]
+        | true ↦ λ is. refl
+        | false ↦ elim (is_awaiting generation word) as (λ w. (if w then Awaits else Other) ≡ Crowded → false ≡ true) [ true ↦ λ is. cc | false ↦ λ is. cc ]
+      ]
     ]
 
 pub sees_awaits : (generation : ℕ) (word : Word) → sight_of generation word ≡ Awaits → is_awaiting generation word ≡ true
@@ -70,9 +70,9 @@ sees_awaits generation word =
     elim (can_open generation word) as (λ b. (if b then Open else if is_crowded generation word then Crowded else if is_awaiting generation word then Awaits else Other) ≡ Awaits → is_awaiting generation word ≡ true) [
       | true ↦ λ is. cc
       | false ↦ elim (is_crowded generation word) as (λ c. (if c then Crowded else if is_awaiting generation word then Awaits else Other) ≡ Awaits → is_awaiting generation word ≡ true) [
-          | true ↦ λ is. cc
-          | false ↦ elim (is_awaiting generation word) as (λ w. (if w then Awaits else Other) ≡ Awaits → w ≡ true) [ true ↦ λ is. refl | false ↦ λ is. cc ]
-        ]
+        | true ↦ λ is. cc
+        | false ↦ elim (is_awaiting generation word) as (λ w. (if w then Awaits else Other) ≡ Awaits → w ≡ true) [ true ↦ λ is. refl | false ↦ λ is. cc ]
+      ]
     ]
 
 -- a word that shows none of these is not of a row that is within the limits
@@ -94,9 +94,9 @@ sees_other generation word is = record {
   awaits = elim (can_open generation word) as (λ b. (if b then Open else if is_crowded generation word then Crowded else if is_awaiting generation word then Awaits else Other) ≡ Other → is_awaiting generation word ≡ false) [
     | true ↦ λ is. cc
     | false ↦ elim (is_crowded generation word) as (λ c. (if c then Crowded else if is_awaiting generation word then Awaits else Other) ≡ Other → is_awaiting generation word ≡ false) [
-        | true ↦ λ is. cc
-        | false ↦ elim (is_awaiting generation word) as (λ w. (if w then Awaits else Other) ≡ Other → w ≡ false) [ true ↦ λ is. cc | false ↦ λ is. refl ]
-      ]
+      | true ↦ λ is. cc
+      | false ↦ elim (is_awaiting generation word) as (λ w. (if w then Awaits else Other) ≡ Other → w ≡ false) [ true ↦ λ is. cc | false ↦ λ is. refl ]
+    ]
   ] is;
 }
 

@@ -33,9 +33,9 @@ pub live_has_slot : (m : Memory) (number : ℕ) → (cached_word m number).live 
 live_has_slot m number live =
     elim (cases_lt (number / GROUP_NUMBERS) (length m.groups)) [
       | inl group ↦ elim (cases_lt (number % GROUP_NUMBERS) (length (cache_at m (number / GROUP_NUMBERS)).slots)) [
-          | inl slot ↦ record { group = group; slot = slot }
-          | inr high ↦ absurd (false≢true (sym (ap (λ (s : Slot). s.word.live) (read_past (cache_at m (number / GROUP_NUMBERS)).slots (number % GROUP_NUMBERS) first_slot high)) ∙ live))
-        ]
+        | inl slot ↦ record { group = group; slot = slot }
+        | inr high ↦ absurd (false≢true (sym (ap (λ (s : Slot). s.word.live) (read_past (cache_at m (number / GROUP_NUMBERS)).slots (number % GROUP_NUMBERS) first_slot high)) ∙ live))
+      ]
       | inr high ↦ absurd (false≢true (sym (ap (λ (c : GroupCache). (slice_index_or c.slots (number % GROUP_NUMBERS) first_slot).word.live) (cache_past m (number / GROUP_NUMBERS) high)) ∙ live))
     ]
 
@@ -66,13 +66,13 @@ pub slot_other : (m : Memory) (number other : ℕ) (slot : Slot) → other ≢ n
 slot_other m number other slot apart =
     elim (cases_eq (other / GROUP_NUMBERS) (number / GROUP_NUMBERS)) [
       | inl same ↦ elim (cases_lt (number / GROUP_NUMBERS) (length m.groups)) [
-          | inl low ↦
-              ap (λ g. slice_index_or (cache_at (with_slot number slot m) g).slots (other % GROUP_NUMBERS) first_slot) same
-              ∙ ap (λ (cache : GroupCache). slice_index_or cache.slots (other % GROUP_NUMBERS) first_slot) (cache_same m (number / GROUP_NUMBERS) (slots_set m number slot) low)
-              ∙ read_other (cache_at m (number / GROUP_NUMBERS)).slots (number % GROUP_NUMBERS) (other % GROUP_NUMBERS) slot first_slot (λ e. apart (same_number other number same e))
-              ∙ ap (λ g. slice_index_or (cache_at m g).slots (other % GROUP_NUMBERS) first_slot) (sym same)
-          | inr high ↦ ap (λ (n : Memory). slot_at n other) (with_cache_past m (number / GROUP_NUMBERS) (slots_set m number slot) high)
-        ]
+        | inl low ↦
+            ap (λ g. slice_index_or (cache_at (with_slot number slot m) g).slots (other % GROUP_NUMBERS) first_slot) same
+            ∙ ap (λ (cache : GroupCache). slice_index_or cache.slots (other % GROUP_NUMBERS) first_slot) (cache_same m (number / GROUP_NUMBERS) (slots_set m number slot) low)
+            ∙ read_other (cache_at m (number / GROUP_NUMBERS)).slots (number % GROUP_NUMBERS) (other % GROUP_NUMBERS) slot first_slot (λ e. apart (same_number other number same e))
+            ∙ ap (λ g. slice_index_or (cache_at m g).slots (other % GROUP_NUMBERS) first_slot) (sym same)
+        | inr high ↦ ap (λ (n : Memory). slot_at n other) (with_cache_past m (number / GROUP_NUMBERS) (slots_set m number slot) high)
+      ]
       | inr differ ↦ ap (λ (cache : GroupCache). slice_index_or cache.slots (other % GROUP_NUMBERS) first_slot) (cache_other m (number / GROUP_NUMBERS) (other / GROUP_NUMBERS) (slots_set m number slot) differ)
     ]
 
@@ -82,13 +82,13 @@ slot_twice m number first second low =
     let g : ℕ = number / GROUP_NUMBERS in
     let there = cache_same m g (slots_set m number first) low in
     ap (λ (cache : GroupCache). record {
-        actors = m.actors;
-        groups = slice_set (slice_set m.groups g (slots_set m number first)) g (record { slots = slice_set cache.slots (number % GROUP_NUMBERS) second; holder = cache.holder });
-      }) there
+      actors = m.actors;
+      groups = slice_set (slice_set m.groups g (slots_set m number first)) g (record { slots = slice_set cache.slots (number % GROUP_NUMBERS) second; holder = cache.holder });
+    }) there
     ∙ ap (λ (slots : List Slot). record {
-        actors = m.actors;
-        groups = slice_set (slice_set m.groups g (slots_set m number first)) g (record { slots = slots; holder = (cache_at m g).holder });
-      }) (set_twice (cache_at m g).slots (number % GROUP_NUMBERS) first second)
+      actors = m.actors;
+      groups = slice_set (slice_set m.groups g (slots_set m number first)) g (record { slots = slots; holder = (cache_at m g).holder });
+    }) (set_twice (cache_at m g).slots (number % GROUP_NUMBERS) first second)
     ∙ ap (λ (groups : List GroupCache). record { actors = m.actors; groups = groups }) (set_twice m.groups g (slots_set m number first) (slots_set m number second))
 
 -- a word that is put where an inode was brought in, and an inode that leaves with its word
@@ -112,11 +112,11 @@ pub holder_slot : (m : Memory) (number g : ℕ) (slot : Slot) → (cache_at (wit
 holder_slot m number g slot =
     elim (cases_eq g (number / GROUP_NUMBERS)) [
       | inl same ↦ elim (cases_lt (number / GROUP_NUMBERS) (length m.groups)) [
-          | inl low ↦
-              ap (λ h. (cache_at (with_slot number slot m) h).holder) same
-              ∙ ap (λ (cache : GroupCache). cache.holder) (cache_same m (number / GROUP_NUMBERS) (slots_set m number slot) low)
-              ∙ ap (λ h. (cache_at m h).holder) (sym same)
-          | inr high ↦ ap (λ (n : Memory). (cache_at n g).holder) (with_cache_past m (number / GROUP_NUMBERS) (slots_set m number slot) high)
-        ]
+        | inl low ↦
+            ap (λ h. (cache_at (with_slot number slot m) h).holder) same
+            ∙ ap (λ (cache : GroupCache). cache.holder) (cache_same m (number / GROUP_NUMBERS) (slots_set m number slot) low)
+            ∙ ap (λ h. (cache_at m h).holder) (sym same)
+        | inr high ↦ ap (λ (n : Memory). (cache_at n g).holder) (with_cache_past m (number / GROUP_NUMBERS) (slots_set m number slot) high)
+      ]
       | inr differ ↦ ap (λ (cache : GroupCache). cache.holder) (cache_other m (number / GROUP_NUMBERS) g (slots_set m number slot) differ)
     ]

@@ -82,11 +82,11 @@ pub the_turn : Laws → (start : Table) (h : History) (m : Memory) → Within st
     → move_of a h.table m ≡ Some move → Turned h.table m a d.call d.place d.«from» (actor_at m a).queue move
 the_turn laws start h m inv a d move inside made =
     turn_of laws start h m inv a d move inside made (λ key held is.
-      held_word laws start h m inv a key held
-      (ap (λ (o : Option Doing). due_of_doing (actor_at m a).queue o) inside
-        ∙ ap (λ c. due_at (first_key (actor_at m a).queue) c d.place) is
-        ∙ close_due_not (first_key (actor_at m a).queue) key d.place
-        (subst (λ c. stands_at c d.place ≡ true) is (call_of start h m inv a d inside).stands)))
+    held_word laws start h m inv a key held
+    (ap (λ (o : Option Doing). due_of_doing (actor_at m a).queue o) inside
+    ∙ ap (λ c. due_at (first_key (actor_at m a).queue) c d.place) is
+    ∙ close_due_not (first_key (actor_at m a).queue) key d.place
+    (subst (λ c. stands_at c d.place ≡ true) is (call_of start h m inv a d inside).stands)))
 
 -- What a step is, apart from its log.
 pub record Stepped (a : ℕ) (d : Doing) (old new : History) (before after : Memory) : Type 0 where

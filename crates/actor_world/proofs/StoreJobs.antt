@@ -300,8 +300,8 @@ answered_job (Ok More) now was old new gathered fits goal answer =
     let going : Job = step_job old.stage was s in
     let action : Action = step_action old.stage was s in
     let right = more_right action going s (λ is. rest_stage old.stage going s is)
-        (λ is. record_fits (gathers old.stage was old.list) old new gathered (stage_gathers old.stage was old.list s refl (ap is_record is)))
-        (λ is. second_fits old.stage going s (kept_fits old.stage was old.list old new gathered fits) (ap is_second is)) answer.0 answer.1 in
+    (λ is. record_fits (gathers old.stage was old.list) old new gathered (stage_gathers old.stage was old.list s refl (ap is_record is)))
+    (λ is. second_fits old.stage going s (kept_fits old.stage was old.list old new gathered fits) (ap is_second is)) answer.0 answer.1 in
     (goal_kept old.stage was s goal answer.0 answer.1, right.up, right.fits, λ some. some_left action going s answer.1 some)
 answered_job (Ok Ended) now was old new gathered fits goal answer =
     let s : State = with_batch old new in
@@ -325,4 +325,4 @@ job_steps face result old new step fits goal =
     let done = answered_job result (face.faults new.disk) old.job (state_of old) (state_of new) step.batch fits goal step.done.answer in
     subst (λ (j : Job). JobSteps result old.job (state_of old) j (state_of new)) (sym step.done.job)
     (subst (λ (s : State). JobSteps result old.job (state_of old) (job_after result (step_action old.stage old.job (with_batch (state_of old) (state_of new))) (step_job old.stage old.job (with_batch (state_of old) (state_of new)))) s)
-      (sym step.done.state) done)
+    (sym step.done.state) done)

@@ -166,7 +166,7 @@ pin_says t m key o right =
     let says_it = live_row t m key o.row o.row_is right o.live in
     put_says _ m key.number _ (live_has_slot m key.number o.live)
     (says_live _ _ key (row_after t o.row (call.OpenKey key)) o.live o.generation (changed_row t key o.row (call.OpenKey key) o.row_is)
-      (record { pins = ap (λ n. n + 1) says_it.1.pins; mark = says_it.1.mark }))
+    (record { pins = ap (λ n. n + 1) says_it.1.pins; mark = says_it.1.mark }))
 
 pub unpin_says : (t : Table) (m : Memory) (key : Key) → HeldWord t m key → WordSays t (cached_word m key.number) key.number
     → WordSays (after_call t (call.CloseKey key) reply.Done) (cached_word (with_word key.number (record (cached_word m key.number) { pins = (cached_word m key.number).pins - 1 }) m) key.number) key.number
@@ -174,7 +174,7 @@ unpin_says t m key o right =
     let says_it = live_row t m key o.row o.row_is right o.live in
     put_says _ m key.number _ (live_has_slot m key.number o.live)
     (says_live _ _ key (row_after t o.row (call.CloseKey key)) o.live o.generation (changed_row t key o.row (call.CloseKey key) o.row_is)
-      (record { pins = ap (λ n. n - 1) says_it.1.pins; mark = says_it.1.mark }))
+    (record { pins = ap (λ n. n - 1) says_it.1.pins; mark = says_it.1.mark }))
 
 pub install_says : (t : Table) (m : Memory) (key : Key) (inode : Residence) → DeadRow t m key → HasSlot m key.number
     → WordSays (after_call t (call.OpenKey key) reply.Done)
@@ -184,7 +184,7 @@ install_says t m key inode o has =
     let some : 1 ≤ o.row.links = o.links in
     put_says _ m key.number _ has
     (says_live _ _ key (row_after t o.row (call.OpenKey key)) refl refl (changed_row t key o.row (call.OpenKey key) o.row_is)
-      (record { pins = omega (arith, none); mark = sym (ne_eqb o.row.links 0 (λ e. omega (arith, e, some))) }))
+    (record { pins = omega (arith, none); mark = sym (ne_eqb o.row.links 0 (λ e. omega (arith, e, some))) }))
 
 pub retire_says : (t : Table) (m : Memory) (number : ℕ) (inode : Residence) → is_idle (cached_word m number) ≡ true → WordSays t (cached_word m number) number
     → WordSays t (cached_word (with_slot number (record { word = record (cached_word m number) { live = false }; inode = inode }) m) number) number

@@ -50,7 +50,6 @@ told_table h a begin (Some event) = refl
 module _ (start : Table) (h : History) (m : Memory) (a : ℕ) (made : Call) (at : Place) (begin : ℕ) (q later : List Key) (event : Option Event) (next : Option Place) (memory : Memory)
     (facts : WordFacts h.table m) (turn : TurnOf start h m a made at begin q event next later memory) (actors : memory.actors ≡ m.actors)
     (locks : (g b : ℕ) → (cache_at memory g).holder ≡ Some b ↔ LiesInGroup g (actor_at (with_actor a (after_turn made begin next later) memory) b)) (k : ℕ) where
-
   own : actor_at (with_actor a (after_turn made begin next later) memory) a ≡ after_turn made begin next later
   own = read_same memory.actors a (after_turn made begin next later) idle_actor (subst (λ (xs : List Actor). a < length xs) (sym actors) turn.low)
 
@@ -84,10 +83,10 @@ module _ (start : Table) (h : History) (m : Memory) (a : ℕ) (made : Call) (at 
       elim (turn.inv.words k) [
         | inl due ↦ due_kept (cache_at m (k / GROUP_NUMBERS)).holder refl due
         | inr right ↦ elim (still facts turn.turn begin k right) [
-            | inl due ↦ inl (
-                ap (λ (o : Option ℕ). due_number (due_of_holder (with_actor a (after_turn made begin next later) memory) o))
-                  ((locks (k / GROUP_NUMBERS) a).1 (subst (LiesInGroup (k / GROUP_NUMBERS)) (sym own) due.1))
-                ∙ ap (λ (x : Actor). due_number (due_of_actor x)) own ∙ due.0)
-            | inr there ↦ inr there
-          ]
+          | inl due ↦ inl (
+              ap (λ (o : Option ℕ). due_number (due_of_holder (with_actor a (after_turn made begin next later) memory) o))
+              ((locks (k / GROUP_NUMBERS) a).1 (subst (LiesInGroup (k / GROUP_NUMBERS)) (sym own) due.1))
+              ∙ ap (λ (x : Actor). due_number (due_of_actor x)) own ∙ due.0)
+          | inr there ↦ inr there
+        ]
       ]

@@ -39,7 +39,6 @@ use Rattle.actor_world.proofs.Slots.{live_has_slot, slot_other}
 use Rattle.actor_world.proofs.Turns.{CanLock, DeadRow, HasSlot, HeldWord, Turn, after_turn, changer_key, changes, copies, ends_flush, ends_reclaim, finds_none, finds_row, frees_head, frees_one, goes_on, grow_refuses, grows, installs, installs_made, is_answered, kills, kills_head, leaves, load_crowded, load_finds, load_pins, load_stale, locked_crowded, locked_installs, locked_pins, locked_stale, locks_change, locks_flush, locks_reclaim, locks_short, maker_group, makes, makes_none, marks, next_empty, next_none, next_row, passes, passes_last, pin_misses, pin_misses_locked, pins, pins_locked, reads, refuses, retires, retires_none, unpins, with_word}
 use Rattle.actor_world.proofs.TurnsFound.{Laws, live_row}
 use Rattle.actor_world.proofs.WordSteps.{changed_other, changed_row, freed_bare, put_word_is, says_dead, says_live, says_stays}
-
 use Rattle.actor_world.proofs.WordTurns.{RowsHaveSlots, Still, decide, dirty_says, elsewhere, install_mends, install_says, kill_mends, mark_mends, pin_says, retire_says, table_after, unpin_says}
 
 -- What the turns rest on.
@@ -61,7 +60,6 @@ zero_test : (n : ℕ) → 1 ≤ n → (n == 0) ≡ false
 zero_test n some = ne_eqb n 0 (λ e. omega arith)
 
 module _ (t : Table) (m : Memory) (facts : WordFacts t m) (begin : ℕ) (later : List Key) where
-
   -- where the row's links go to or from none, the mark is due
   link_still : (key : Key) (row : Row) → row_of t key ≡ Some row → (k : ℕ) → WordSays t (cached_word m k) k
       → Still (after_call t (call.Link key) reply.Done) (make_dirty key.number m) (call.Link key) begin (Some (place_after_change (call.Link key) reply.Done (links_of (row_of t key)))) later k
@@ -71,13 +69,13 @@ module _ (t : Table) (m : Memory) (facts : WordFacts t m) (begin : ℕ) (later :
       let moved : row_of u key ≡ Some (row_after t row (call.Link key)) = changed_row t key row (call.Link key) is in
       subst (λ (o : Option Row). P (links_of o == 0) k) (sym is)
       (decide (P (row.links == 0)) key.number k
-        (elim (cases_eq row.links 0) [
-          | inl none ↦ subst (λ b. P b key.number) (sym (eq-eqb row.links 0 none)) (λ right. inl (refl, (refl, refl)))
-          | inr some ↦ subst (λ b. P b key.number) (sym (ne_eqb row.links 0 some)) (λ right.
-              inr (dirty_says t u m key row (row_after t row (call.Link key)) (facts.has key row is) is moved refl
-                (zero_test (row.links + 1) (omega arith) ∙ sym (ne_eqb row.links 0 some)) right))
-        ])
-        (λ apart right. inr (elsewhere t u m key.number k _ apart (inl (changed_other t key (row_of t key) (call.Link key) k apart)) right)))
+      (elim (cases_eq row.links 0) [
+        | inl none ↦ subst (λ b. P b key.number) (sym (eq-eqb row.links 0 none)) (λ right. inl (refl, (refl, refl)))
+        | inr some ↦ subst (λ b. P b key.number) (sym (ne_eqb row.links 0 some)) (λ right.
+            inr (dirty_says t u m key row (row_after t row (call.Link key)) (facts.has key row is) is moved refl
+            (zero_test (row.links + 1) (omega arith) ∙ sym (ne_eqb row.links 0 some)) right))
+      ])
+      (λ apart right. inr (elsewhere t u m key.number k _ apart (inl (changed_other t key (row_of t key) (call.Link key) k apart)) right)))
 
   unlink_still : (key : Key) (row : Row) → row_of t key ≡ Some row → row.links ≢ 0 → (k : ℕ) → WordSays t (cached_word m k) k
       → Still (after_call t (call.Unlink key) reply.Done) (make_dirty key.number m) (call.Unlink key) begin (Some (place_after_change (call.Unlink key) reply.Done (links_of (row_of t key)))) later k
@@ -87,13 +85,13 @@ module _ (t : Table) (m : Memory) (facts : WordFacts t m) (begin : ℕ) (later :
       let moved : row_of u key ≡ Some (row_after t row (call.Unlink key)) = changed_row t key row (call.Unlink key) is in
       subst (λ (o : Option Row). P (links_of o == 1) k) (sym is)
       (decide (P (row.links == 1)) key.number k
-        (elim (cases_eq row.links 1) [
-          | inl one ↦ subst (λ b. P b key.number) (sym (eq-eqb row.links 1 one)) (λ right. inl (refl, (refl, refl)))
-          | inr more ↦ subst (λ b. P b key.number) (sym (ne_eqb row.links 1 more)) (λ right.
-              inr (dirty_says t u m key row (row_after t row (call.Unlink key)) (facts.has key row is) is moved refl
-                (zero_test (row.links - 1) (omega (arith, more, linked)) ∙ sym (ne_eqb row.links 0 linked)) right))
-        ])
-        (λ apart right. inr (elsewhere t u m key.number k _ apart (inl (changed_other t key (row_of t key) (call.Unlink key) k apart)) right)))
+      (elim (cases_eq row.links 1) [
+        | inl one ↦ subst (λ b. P b key.number) (sym (eq-eqb row.links 1 one)) (λ right. inl (refl, (refl, refl)))
+        | inr more ↦ subst (λ b. P b key.number) (sym (ne_eqb row.links 1 more)) (λ right.
+            inr (dirty_says t u m key row (row_after t row (call.Unlink key)) (facts.has key row is) is moved refl
+            (zero_test (row.links - 1) (omega (arith, more, linked)) ∙ sym (ne_eqb row.links 0 linked)) right))
+      ])
+      (λ apart right. inr (elsewhere t u m key.number k _ apart (inl (changed_other t key (row_of t key) (call.Unlink key) k apart)) right)))
 
   -- a change of the row's blocks alone
   blocks_still : (made : Call) (next : Option Place) (key : Key) (row : Row) → row_of t key ≡ Some row → after_call t made reply.Done ≡ with_changed t key (row_of t key) made
@@ -102,8 +100,8 @@ module _ (t : Table) (m : Memory) (facts : WordFacts t m) (begin : ℕ) (later :
   blocks_still made next key row is table opens links k right =
       subst (λ u. Still u (make_dirty key.number m) made begin next later k) (sym table)
       (decide (λ n. WordSays t (cached_word m n) n → Still (with_changed t key (row_of t key) made) (make_dirty key.number m) made begin next later n) key.number k
-        (λ here. inr (dirty_says t _ m key row (row_after t row made) (facts.has key row is) is (changed_row t key row made is) opens (ap (λ n. n == 0) links) here))
-        (λ apart there. inr (elsewhere t _ m key.number k _ apart (inl (changed_other t key (row_of t key) made k apart)) there)) right)
+      (λ here. inr (dirty_says t _ m key row (row_after t row made) (facts.has key row is) is (changed_row t key row made is) opens (ap (λ n. n == 0) links) here))
+      (λ apart there. inr (elsewhere t _ m key.number k _ apart (inl (changed_other t key (row_of t key) made k apart)) there)) right)
 
   change_still : (made : Call) (key : Key) → changer_key made ≡ Some key → Permits t made reply.Done → (k : ℕ) → WordSays t (cached_word m k) k
       → Still (after_call t made reply.Done) (make_dirty key.number m) made begin (Some (place_after_change made reply.Done (links_of (row_of t key)))) later k
@@ -143,9 +141,9 @@ module _ (t : Table) (m : Memory) (facts : WordFacts t m) (begin : ℕ) (later :
       let new = facts.made g key links next ok in
       subst (λ u. Still u (make_dirty key.number m) made begin (Some (place.InstallMade key)) later k) (sym table)
       (decide (λ n. WordSays t (cached_word m n) n → Still (with_row (prepare t g) key (made_row links)) (make_dirty key.number m) made begin (Some (place.InstallMade key)) later n) key.number k
-        (λ here. inl (refl, (refl, group ∙ ap (λ n. Some n) (sym new.group))))
-        (λ apart there. inr (elsewhere t _ m key.number k _ apart
-          (subst (λ (o : Option Inode). StaysOrComes (inode_of t k) o) (sym (inode_other (prepare t g) key.number k (in_use key (made_row links)) (λ e. apart (sym e)))) (prepare_stays t g k facts.ok next.0)) there)) right)
+      (λ here. inl (refl, (refl, group ∙ ap (λ n. Some n) (sym new.group))))
+      (λ apart there. inr (elsewhere t _ m key.number k _ apart
+      (subst (λ (o : Option Inode). StaysOrComes (inode_of t k) o) (sym (inode_other (prepare t g) key.number k (in_use key (made_row links)) (λ e. apart (sym e)))) (prepare_stays t g k facts.ok next.0)) there)) right)
 
   maker_still : (made : Call) (g : ℕ) (key : Key) → maker_group made ≡ Some g → Permits t made (reply.Made key) → (k : ℕ) → WordSays t (cached_word m k) k
       → Still (after_call t made (reply.Made key)) (make_dirty key.number m) made begin (Some (place.InstallMade key)) later k

@@ -45,8 +45,8 @@ ghost use Rattle.actor_world.specs.Invariant.{first_key, unfinished_from};
 
 use disk_model::Disk;
 use life_table::{
-    changes_pass_over_holds, each_call_has_one_reply, holders_have_rows, lowest_keys_are_least, recovery_frees_once,
-    rows_are_within_limits, tables_stay_well_formed,
+    changes_pass_over_holds, each_call_has_one_reply, holders_have_rows, lowest_keys_are_least,
+    recovery_frees_once, rows_are_within_limits, tables_stay_well_formed,
 };
 
 /// What a commit is told of: whether it encodes the change from one history to the next. What is proved of the bytes of

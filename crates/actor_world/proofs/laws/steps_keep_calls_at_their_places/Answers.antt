@@ -18,7 +18,7 @@ placed : Laws → LowestIsFree → {D : Type 0} (face : DiskFace D) (tells : Tel
 placed laws free face tells start a old new inv step =
     by_turn laws face tells start a old new (λ h m. (b : ℕ) (d : Doing) → (actor_at m b).doing ≡ Some d → StandsRight h m b (actor_at m b).queue d) (within tells start old inv) step
     (λ made at begin q later event next memory turn.
-      places_kept start old.history old.memory a made at begin q later event next memory (word_facts laws free start old.history old.memory turn.inv) turn)
+    places_kept start old.history old.memory a made at begin q later event next memory (word_facts laws free start old.history old.memory turn.inv) turn)
 
 pub returns-clause-begun : goal.returns-clause-begun
 returns-clause-begun g c = λ face start a old new inv step b d inside.

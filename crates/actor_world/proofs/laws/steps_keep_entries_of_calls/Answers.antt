@@ -17,4 +17,4 @@ returns g c = λ face start a old new inv step.
       held = c.holders_have_rows.ensures;
     }) face g.T.Tells.tells start a old new (λ h m. (b : ℕ) (d : Doing) → (actor_at m b).doing ≡ Some d → HasEntry h.entries h.froms b d.«from» d.call (reply_at d.place)) (within g.T.Tells.tells start old inv) step
     (λ made at begin q later event next memory turn.
-      entries_kept start old.history old.memory a made at begin q later event next memory turn)
+    entries_kept start old.history old.memory a made at begin q later event next memory turn)

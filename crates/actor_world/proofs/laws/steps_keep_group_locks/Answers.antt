@@ -19,5 +19,5 @@ returns g c = λ face start a old new inv step.
       held = c.holders_have_rows.ensures;
     }) face g.T.Tells.tells start a old new (λ h m. (k b : ℕ) → (cache_at m k).holder ≡ Some b ↔ LiesInGroup k (actor_at m b)) (within g.T.Tells.tells start old inv) step
     (λ made at begin q later event next memory turn.
-      let actors = effect_actors (effect_of turn.inv.cached turn.turn) in
-      locks_kept old.memory a made at begin q later next memory turn.inv.group_locks turn.actor_is (subst (λ (xs : List Actor). a < length xs) (sym actors) turn.low) actors (lock_turn turn.turn))
+    let actors = effect_actors (effect_of turn.inv.cached turn.turn) in
+    locks_kept old.memory a made at begin q later next memory turn.inv.group_locks turn.actor_is (subst (λ (xs : List Actor). a < length xs) (sym actors) turn.low) actors (lock_turn turn.turn))

@@ -14,4 +14,4 @@ returns g c = λ face start a old new inv step.
       held = c.holders_have_rows.ensures;
     }) face g.T.Tells.tells start a old new (λ h m. Interval h.entries h.froms) (within g.T.Tells.tells start old inv) step
     (λ made at begin q later event next memory turn.
-      intervals_kept old.history a begin event turn.inv.intervals turn.right.begun)
+    intervals_kept old.history a begin event turn.inv.intervals turn.right.begun)

@@ -15,4 +15,4 @@ returns g c = λ face start a old new inv step.
       held = c.holders_have_rows.ensures;
     }) face g.T.Tells.tells start a old new (λ h m. (number : ℕ) → IsCore (slot_at m number)) (within g.T.Tells.tells start old inv) step
     (λ made at begin q later event next memory turn.
-      effect_core turn.inv.cached (effect_of turn.inv.cached turn.turn))
+    effect_core turn.inv.cached (effect_of turn.inv.cached turn.turn))

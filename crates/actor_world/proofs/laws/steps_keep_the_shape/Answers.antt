@@ -16,4 +16,4 @@ returns g c = λ face start a old new inv step.
       held = c.holders_have_rows.ensures;
     }) face g.T.Tells.tells start a old new (λ h m. IsShaped h.table m) (within g.T.Tells.tells start old inv) step
     (λ made at begin q later event next memory turn.
-      shape_kept old.history old.memory a begin event _ memory (effect_actors (effect_of turn.inv.cached turn.turn)) turn.inv.shaped (effect_shape (effect_of turn.inv.cached turn.turn)))
+    shape_kept old.history old.memory a begin event _ memory (effect_actors (effect_of turn.inv.cached turn.turn)) turn.inv.shaped (effect_shape (effect_of turn.inv.cached turn.turn)))

@@ -14,4 +14,4 @@ returns g c = λ face start a old new inv step.
       held = c.holders_have_rows.ensures;
     }) face g.T.Tells.tells start a old new (λ h m. LegalHistory start h.entries h.table) (within g.T.Tells.tells start old inv) step
     (λ made at begin q later event next memory turn.
-      legal_kept start old.history old.memory a made at begin q later event next memory turn.inv turn.right.held turn.turn)
+    legal_kept start old.history old.memory a made at begin q later event next memory turn.inv turn.right.held turn.turn)
