@@ -83,7 +83,7 @@ Covering Nothing = ⊥
 Covering Idle = ⊥
 
 -- The images of the commits that wait are counted, and there is room for them, and for so many more beside them.
-pub record HasRoom (list : List Commit) (room waiting spare : ℕ) : Type 0 where
+pub record HasImageRoom (list : List Commit) (room waiting spare : ℕ) : Type 0 where
   pub counted : waiting ≡ length (commit_images list)
   pub within : waiting + spare ≤ room
   pub countable : waiting + spare < 2 ^ 64
@@ -100,7 +100,7 @@ pub record IsConsistent {D : Type 0} (sector_count : ℕ) (store : Store D) : Ty
   pub numbers : store.durable + length store.queue.items < 2 ^ 64 - 1
   pub rises : KeysRise (λ i. i.home) 0 store.dirty.images
   pub homes : All (IsGroupImage store.anchor) store.dirty.images
-  pub room : HasRoom store.queue.items store.dirty.room store.waiting store.spare
+  pub room : HasImageRoom store.queue.items store.dirty.room store.waiting store.spare
   pub buffer : length store.sectors.items ≡ MAX_RECORD_SECTORS
   pub stage : StageFits store.stage (state_of store) store.sectors.items store.count
   pub job : JobFits store.stage store.job

@@ -22,7 +22,7 @@ use Rattle.log_store.specs.declared.store.Job.TheVariants.{Clear, Force, Home, I
 use Rattle.log_store.specs.Landed.{RingFits, landed}
 use Rattle.log_store.specs.OnDisk.{AtRest, Flies, HoldsAtStage, IsTaken, ReplaysTo, ReplaysUpTo, base_of, fully_written, half_written, item_of}
 use Rattle.log_store.specs.State.{State, state_of}
-use Rattle.log_store.specs.Steps.{Goes, HasRoom, IsInFlight, JobAsks, JobFits, StageFits}
+use Rattle.log_store.specs.Steps.{Goes, HasImageRoom, IsInFlight, JobAsks, JobFits, StageFits}
 use Rattle.log_store.proofs.Falls.{falls}
 use Rattle.log_store.proofs.Going.{leaves, replays_wider}
 use Rattle.log_store.proofs.Launch.{groups_batch, length_batch}
@@ -60,8 +60,8 @@ groups_left anchor n commits all =
     (All-drop (IsGroupImage anchor) (length (commit_images (take n commits))) (commit_images (take n commits) ++ commit_images (drop n commits)) whole)
 
 -- the commits of a record that is flushed wait no more, and their images take the room that was held for them
-room_left : (list left : List Commit) (batch : List Image) (taken room now waiting rest spare : ℕ) → HasRoom list room waiting spare → IsTaken list taken batch
-    → left ≡ drop taken list → rest ≡ length (commit_images left) → room ≤ now + length batch → HasRoom left now rest spare
+room_left : (list left : List Commit) (batch : List Image) (taken room now waiting rest spare : ℕ) → HasImageRoom list room waiting spare → IsTaken list taken batch
+    → left ≡ drop taken list → rest ≡ length (commit_images left) → room ≤ now + length batch → HasImageRoom left now rest spare
 room_left list left batch taken room now waiting rest spare has is left_is rest_is le =
     let both = ap length (commit_images-split taken list) in
     let sizes = length-append (commit_images (take taken list)) (commit_images (drop taken list)) in
