@@ -29,7 +29,7 @@ use Rattle.actor_world.specs.World.{GroupExists, History, IsBegun, World, beginn
 use Rattle.actor_world.specs.Steps.{Telling}
 use Rattle.actor_world.specs.Words.{Due, DueHolds, due_at, due_number, install, kill, mark, nothing}
 use Rattle.actor_world.specs.Licence.{BelongsTo, Interval, IsAnsweredAt, Licensed, MayFree, Unfinished, queue_at}
-use Rattle.actor_world.specs.Invariant.{ActorIsRight, CallIsRight, DoingIsRight, FreesAreRight, GroupIsThere, HasEntry, Invariant, IsShaped, JobIsRight, JobOfDoing, JobOfHolder, LiesInGroup, LiesInLog, PlaceKeeps, QueueIsRight, WordIsRight, due_in, due_of_actor, due_of_doing, due_of_holder, first_key, is_gc, is_gc_call, key_made, reply_at, unfinished_from, unfinished_of}
+use Rattle.actor_world.specs.Invariant.{ActorIsRight, CallIsRight, DoingIsRight, FreesAreRight, GroupIsThere, HasEntry, Invariant, IsShaped, JobIsRight, JobOfDoing, JobOfHolder, LiesInGroup, LiesInLog, PlaceKeeps, QueueIsRight, WordIsRight, due_in, due_of_actor, due_of_doing, due_of_holder, first_key, is_gc, is_gc_call, key_made, reply_at, unanswered, unfinished_from, unfinished_of}
 use Rattle.actor_world.proofs.Geometry.{is_placed}
 use Rattle.actor_world.proofs.Lists.{read_other, read_same, set-length, the_some}
 use Rattle.actor_world.proofs.LiveWords.{has_inode}
@@ -236,20 +236,33 @@ module _ (laws : Laws) (start : Table) (h : History) (m : Memory) (inv : Within 
 contains_cons : {X : Type 0} (y : X) (ys : List X) (x : X) → Contains ys x → Contains (y ∷ ys) x
 contains_cons y ys x (k, low, at) = (suc k, omega (arith, low), at)
 
-pub contains_under : {X : Type 0} (y : X) (ys zs : List X) (x : X) → (Contains ys x → Contains zs x) → Contains (y ∷ ys) x → Contains (y ∷ zs) x
+contains_under : {X : Type 0} (y : X) (ys zs : List X) (x : X) → (Contains ys x → Contains zs x) → Contains (y ∷ ys) x → Contains (y ∷ zs) x
 contains_under y ys zs x f (zero, low, at) = (zero, omega arith, at)
 contains_under y ys zs x f (suc k, low, at) = contains_cons y zs x (f (k, omega (arith, low), at))
 
+unanswered_under : (n : ℕ) (d : Doing) (o : Option Reply) (ys zs : List Unfinished) (x : Unfinished) → (Contains ys x → Contains zs x) → Contains (unanswered n d o ++ ys) x → Contains (unanswered n d o ++ zs) x
+unanswered_under n d None ys zs x f there = contains_under _ ys zs x f there
+unanswered_under n d (Some answer) ys zs x f there = f there
+
+-- a call in progress is one of those behind it, too
+behind_reply : (n : ℕ) (d : Doing) (o : Option Reply) (ys : List Unfinished) (x : Unfinished) → Contains ys x → Contains (unanswered n d o ++ ys) x
+behind_reply n d None ys x there = contains_cons _ ys x there
+behind_reply n d (Some answer) ys x there = there
+
+pub behind : (n : ℕ) (o : Option Doing) (ys : List Unfinished) (x : Unfinished) → Contains ys x → Contains (unfinished_of n o ++ ys) x
+behind n None ys x there = there
+behind n (Some d) ys x there = behind_reply n d (reply_at d.place) ys x there
+
 pub unfinished_under : (n : ℕ) (o : Option Doing) (ys zs : List Unfinished) (x : Unfinished) → (Contains ys x → Contains zs x) → Contains (unfinished_of n o ++ ys) x → Contains (unfinished_of n o ++ zs) x
 unfinished_under n None ys zs x f there = f there
-unfinished_under n (Some d) ys zs x f there = contains_under _ ys zs x f there
+unfinished_under n (Some d) ys zs x f there = unanswered_under n d (reply_at d.place) ys zs x f there
 
 -- calls in progress stay so where an idle actor begins one
 unfinished_more : (n : ℕ) (actors : List Actor) (i : ℕ) (d : Doing) (queue : List Key) (x : Unfinished) → (slice_index_or actors i idle_actor).doing ≡ None
     → Contains (unfinished_from n actors) x → Contains (unfinished_from n (slice_set actors i (record { doing = Some d; queue = queue }))) x
 unfinished_more n [] i d queue x idle there = there
 unfinished_more n (actor ∷ actors) zero d queue x idle there =
-    contains_cons _ (unfinished_from (n + 1) actors) x (subst (λ (o : Option Doing). Contains (unfinished_of n o ++ unfinished_from (n + 1) actors) x) idle there)
+    behind n (Some d) (unfinished_from (n + 1) actors) x (subst (λ (o : Option Doing). Contains (unfinished_of n o ++ unfinished_from (n + 1) actors) x) idle there)
 unfinished_more n (actor ∷ actors) (suc i) d queue x idle there =
     unfinished_under n actor.doing (unfinished_from (n + 1) actors) _ x (unfinished_more (n + 1) actors i d queue x idle) there
 

@@ -35,7 +35,7 @@ after_one : (t u : Table) (event : Event) → Happens t event u → u ≡ after_
 after_one t u (Called made answer) happens = happens.1
 after_one t u (Freed key) happens = happens.1
 
-leads_after : (t u : Table) (entries : List Entry) → Leads t entries u → u ≡ after_entries t entries
+pub leads_after : (t u : Table) (entries : List Entry) → Leads t entries u → u ≡ after_entries t entries
 leads_after t u [] leads = leads
 leads_after t u (entry ∷ entries) (next, one, rest) = leads_after next u entries rest ∙ ap (λ v. after_entries v entries) (after_one t next entry.event one)
 

@@ -9,6 +9,7 @@ mod Holding
 mod HouseTurns
 mod JobSteps
 mod LegalSteps
+mod LicenceSteps
 mod Lists
 mod LiveWords
 mod Locks

@@ -223,11 +223,15 @@ pub record ActorIsRight (start : Table) (h : History) (m : Memory) (a : ℕ) (ac
   pub queue : QueueIsRight (is_gc actor.doing) h.table actor.queue (queue_at start h.entries (length h.entries) a)
   pub doing : DoingIsRight start h m a actor.queue actor.doing
 
--- ---- calls in progress
+-- ---- calls in progress that are not answered yet
+
+abbrev pub unanswered : ℕ → Doing → Option Reply → List Unfinished
+unanswered a d None = record { actor = a; call = d.call; begin = d.«from» } ∷ []
+unanswered a d (Some answer) = []
 
 abbrev pub unfinished_of : ℕ → Option Doing → List Unfinished
 unfinished_of a None = []
-unfinished_of a (Some d) = record { actor = a; call = d.call; begin = d.«from» } ∷ []
+unfinished_of a (Some d) = unanswered a d (reply_at d.place)
 
 -- those of these actors, which are numbered from here on
 abbrev pub unfinished_from : ℕ → List Actor → List Unfinished

@@ -1,6 +1,6 @@
 // Laws of the world's steps.
 
-ghost use Rattle.std.specs.Prelude.{◌≡◌, ◌≤◌, ℕ, true, false, List, Option, None, Some, length};
+ghost use Rattle.std.specs.Prelude.{◌≡◌, ◌≤◌, ℕ, true, false, List, Option, None, Some, length, ◌↔◌, ◌/◌, IsSome};
 ghost use Rattle.log_record.specs.declared.image.Commit.{Commit};
 ghost use Rattle.life_table.specs.declared.key.Key.{Key};
 ghost use Rattle.life_table.specs.declared.types.Call.{Call as AnyCall};
@@ -8,7 +8,7 @@ ghost use Rattle.life_table.specs.declared.types.Call.TheVariants as Call;
 ghost use Rattle.life_table.specs.declared.types.Reply.TheVariants as Reply;
 ghost use Rattle.life_table.specs.declared.types.Event.{Event};
 ghost use Rattle.life_table.specs.declared.table.Table.{Table};
-ghost use Rattle.life_table.specs.History.{LegalHistory};
+ghost use Rattle.life_table.specs.History.{LegalHistory, IsHeld, key_of};
 ghost use Rattle.slot_words.specs.declared.sight.Sight.TheVariants as Sight;
 ghost use Rattle.slot_words.specs.Steps.{sight_of};
 ghost use Rattle.actor_world.specs.declared.memory.Place.{Place};
@@ -16,32 +16,17 @@ ghost use Rattle.actor_world.specs.declared.memory.Place.TheVariants as place;
 ghost use Rattle.actor_world.specs.declared.memory.Doing.{Doing};
 ghost use Rattle.actor_world.specs.declared.memory.Memory.{Memory};
 ghost use Rattle.actor_world.specs.declared.memory.Residence.TheVariants.{Absent};
-ghost use Rattle.actor_world.specs.Caches.{moved_to, cached_word, ended, is_of_geometry, slot_at};
-ghost use Rattle.actor_world.specs.Moves.{answers, open_move, pinned, silent, lies_in_group, lies_in_log, takes_group, takes_log, waits_in_group};
+ghost use Rattle.actor_world.specs.Caches.{moved_to, cached_word, ended, is_of_geometry, slot_at, actor_at, cache_at};
+ghost use Rattle.actor_world.specs.Moves.{answers, open_move, pinned, silent, lies_in_group, lies_in_log, takes_group, takes_log, waits_in_group, stands_at, group_of_call, is_log_call, move_of};
 ghost use Rattle.actor_world.specs.World.{History, IsBegun, World, told_if};
 ghost use Rattle.actor_world.specs.Steps.{DiskFace, Step};
 ghost use Rattle.actor_world.specs.Kinds.{IsLogKind};
-ghost use Rattle.actor_world.specs.Licence.{Interval};
-ghost use Rattle.actor_world.specs.Invariant.{Invariant, IsShaped};
+ghost use Rattle.actor_world.specs.Licence.{Interval, Licensed};
+ghost use Rattle.actor_world.specs.Invariant.{Invariant, IsShaped, LiesInGroup, WordIsRight, LiesInLog, CommitsAreRight, HasEntry, reply_at, GroupIsThere, key_made, JobIsRight, first_key, unfinished_from};
 ghost use Rattle.actor_world.specs.Mounted.{IsMounted};
-ghost use Rattle.std.specs.Prelude.{◌↔◌};
-ghost use Rattle.actor_world.specs.Caches.{actor_at, cache_at};
-ghost use Rattle.actor_world.specs.Invariant.{LiesInGroup};
-ghost use Rattle.actor_world.specs.Invariant.{WordIsRight};
-ghost use Rattle.actor_world.specs.Invariant.{LiesInLog};
-ghost use Rattle.actor_world.specs.Invariant.{CommitsAreRight};
 ghost use Rattle.life_table.specs.declared.types.Reply.{Reply as AnyReply};
-ghost use Rattle.actor_world.specs.Invariant.{HasEntry, reply_at};
-ghost use Rattle.life_table.specs.History.{IsHeld, key_of};
-ghost use Rattle.actor_world.specs.Moves.{stands_at};
-ghost use Rattle.actor_world.specs.Invariant.{GroupIsThere, key_made};
-ghost use Rattle.actor_world.specs.Invariant.{JobIsRight};
-ghost use Rattle.std.specs.Prelude.{◌/◌, IsSome};
 ghost use Rattle.life_limits.specs.declared.TheConstants.{GROUP_NUMBERS};
-ghost use Rattle.actor_world.specs.Moves.{group_of_call, is_log_call, move_of};
 ghost use Rattle.actor_world.specs.Words.{due_at, due_number};
-ghost use Rattle.actor_world.specs.Licence.{Licensed};
-ghost use Rattle.actor_world.specs.Invariant.{first_key, unfinished_from};
 
 use disk_model::Disk;
 use life_table::{
@@ -280,3 +265,15 @@ pub fn calls_wait_for_locks_alone<D: Disk, T: Tells>()
         → waits_in_group (actor_at m a).queue d m ≡ Some b → move_of a t m ≡ None }
     ensures holders { (queue : List Key) (d : Doing) (m : Memory) → lies_in_group d.place ≡ true → waits_in_group queue d m ≡ None }
 {}
+
+/// A law: after a step each free has its call and its reason, a gc leaves no row of its queue, and no refusal for want of
+/// room leaves a row that awaited as its call began.
+pub fn steps_keep_the_licence<D: Disk, T: Tells>()
+    ensures { (face : DiskFace D) (start : Table) (a : ℕ) (old new : World D) → Invariant T.tells start old → Step face T.tells a old new
+        → Licensed start new.history.entries new.history.froms (unfinished_from 0 new.memory.actors) }
+{
+    each_call_has_one_reply();
+    tables_stay_well_formed();
+    rows_are_within_limits();
+    holders_have_rows();
+}
