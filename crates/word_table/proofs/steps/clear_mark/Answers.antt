@@ -1,0 +1,19 @@
+use Rattle.std.proofs.Common.{◌<◌, ◌^◌, arith}
+use Rattle.word_table.proofs.Parts.{unmarks}
+use Rattle.word_table.proofs.StepsKeep.{unmarks_it}
+use Rattle.word_table.proofs.steps.clear_mark.Goals as goal
+
+pub fetch_and-requires : goal.fetch_and-requires
+fetch_and-requires c = (
+  c.requires.seat,
+  omega (arith, c.requires.inside, c.requires.words),
+  unmarks_it c.each_number_is_one_word.ensures _ _ _ _ _ _ c.requires.inside c.requires.keeps c.requires.pin,
+)
+
+pub returns-clause-step : goal.returns-clause-step
+returns-clause-step c =
+    let step = c.fetch_and.ensures.2 in
+    let held = step.holds c.args.generation c.requires.pin in
+    let small : c.fetch_and.result < 2 ^ 64 = omega arith in
+    let made = unmarks c.each_number_is_one_word.ensures c.args.generation c.fetch_and.result small held in
+    (_, record { slots = step.slots; held = held; tells = step.tells c.requires.keeps; step_is = made.step_is; view = step.view })
