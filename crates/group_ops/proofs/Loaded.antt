@@ -22,7 +22,7 @@ use Rattle.sound_image.specs.Encoding.{CanEncode, Layouts, chunk_record, encoded
 use Rattle.sound_image.specs.Rules.{free_set}
 use Rattle.group_ops.specs.Buffers.{AreBuffers, Buffers, BuffersAscend, buffer_in}
 use Rattle.group_ops.specs.Loading.{ShowChunks, Shows}
-use Rattle.group_ops.specs.Values.{GroupValue}
+use Rattle.group_ops.specs.Values.{StateValue}
 use Rattle.group_ops.specs.Represents.{HasInode, IsGroupOf, incore_for}
 use Rattle.group_ops.proofs.Finding.{buffer_first, buffer_later}
 use Rattle.group_ops.proofs.Told.{SectorsStand}
@@ -98,7 +98,7 @@ there g image group (c ∷ cs) (b ∷ bs) agino inode same whole shown found =
 no_inode_in_core : (cache : Cache) (agino : ℕ) → cache.inodes ≡ finmap.empty → incore_at cache agino ≡ None
 no_inode_in_core cache agino none = ap (λ m. finmap.get m agino) none ∙ get-empty nat_cmp agino
 
-has_inode : (s : GroupValue) (agino : ℕ) (layouts : Layouts) (inode : Inode) (image : List Sector) → s.cache.inodes ≡ finmap.empty
+has_inode : (s : StateValue) (agino : ℕ) (layouts : Layouts) (inode : Inode) (image : List Sector) → s.cache.inodes ≡ finmap.empty
     → IsThere image (sector_in s.geometry s.group agino) s.buffers agino → bytes_at image (sector_in s.geometry s.group agino) ≡ inode_sector s.geometry layouts s.group agino inode
     → HasInode s agino (incore_for layouts s.group agino inode)
 unfolding inode_sector

@@ -22,7 +22,7 @@ use Rattle.life_table.specs.Table.{group_at, inode_in, row_in_life}
 use Rattle.sound_image.specs.Places.{bytes_at, sector_in}
 use Rattle.sound_image.specs.Encoding.{CanEncode, Layouts, bucket_list, core_for, encoded, inode_sector, next_in}
 use Rattle.group_ops.specs.Buffers.{buffer_in}
-use Rattle.group_ops.specs.Values.{GroupValue}
+use Rattle.group_ops.specs.Values.{StateValue}
 use Rattle.group_ops.specs.Represents.{incore_for}
 use Rattle.group_ops.specs.Telling.{HasRowAt, core_told}
 use Rattle.group_ops.proofs.Told.{SectorsStand, blank, can_encode}
@@ -68,7 +68,7 @@ ForksStand = (g : Geometry) (t : Table) (layouts : Layouts) (image : List Sector
     → inode_in (group_at t group) agino ≡ Some inode → inode.row ≡ Some row
     → HasFork (bytes_at (encoded g t layouts image) (sector_in g group agino)) (length (runs row.blocks)) group (runs row.blocks)
 
-pub has_fork : SectorsStand → ForksStand → (s : GroupValue) (t : Table) (layouts : Layouts) (agino : ℕ) (inode : Inode) (row : Row) (bytes : List ℕ) → IsGeometry s.geometry → s.group < s.geometry.groups
+pub has_fork : SectorsStand → ForksStand → (s : StateValue) (t : Table) (layouts : Layouts) (agino : ℕ) (inode : Inode) (row : Row) (bytes : List ℕ) → IsGeometry s.geometry → s.group < s.geometry.groups
     → HasRowAt s agino t layouts inode row → bytes ≡ incore_encoding s.group s.geometry.uuid agino (incore_for layouts s.group agino inode)
     → HasFork bytes (length (runs row.blocks)) s.group (runs row.blocks)
 unfolding inode_sector
@@ -79,7 +79,7 @@ has_fork sectors forks s t layouts agino inode row bytes shape inside has same =
     (forks s.geometry t layouts (blank s.geometry) s.group agino inode row can inside has.inode_there has.used)
 
 -- the fork that stands in the buffer of a number that is not in core
-pub buffer_fork : SectorsStand → ForksStand → (s : GroupValue) (t : Table) (layouts : Layouts) (agino extents : ℕ) (inode : Inode) (row : Row) (sector : Sector) → IsGeometry s.geometry
+pub buffer_fork : SectorsStand → ForksStand → (s : StateValue) (t : Table) (layouts : Layouts) (agino extents : ℕ) (inode : Inode) (row : Row) (sector : Sector) → IsGeometry s.geometry
     → s.group < s.geometry.groups → HasRowAt s agino t layouts inode row → incore_at s.cache agino ≡ None → buffer_in s.buffers agino ≡ Some sector → extents ≡ length (runs row.blocks)
     → HasFork sector.bytes extents s.group (runs row.blocks)
 buffer_fork sectors forks s t layouts agino extents inode row sector shape inside has out at many =
@@ -89,7 +89,7 @@ buffer_fork sectors forks s t layouts agino extents inode row sector shape insid
     (has_fork sectors forks s t layouts agino inode row sector.bytes shape inside has (told (ap is_dirty out)))
 
 -- a number with a row has a buffer
-pub has_buffer : (s : GroupValue) (t : Table) (layouts : Layouts) (agino : ℕ) (inode : Inode) (row : Row) → HasRowAt s agino t layouts inode row → buffer_in s.buffers agino ≡ None → ⊥
+pub has_buffer : (s : StateValue) (t : Table) (layouts : Layouts) (agino : ℕ) (inode : Inode) (row : Row) → HasRowAt s agino t layouts inode row → buffer_in s.buffers agino ≡ None → ⊥
 has_buffer s t layouts agino inode row has gone =
     subst (λ (b : Option Sector). IsSomeAnd b (λ x. is_dirty (incore_at s.cache agino) ≡ false
     → x.bytes ≡ incore_encoding s.group s.geometry.uuid agino (incore_for layouts s.group agino inode))) gone (has.group.inodes agino inode has.inode_there).buffer
@@ -97,7 +97,7 @@ has_buffer s t layouts agino inode row has gone =
 row_blocks_of : (r : Option Row) (row : Row) → r ≡ Some row → row_blocks r ≡ row.blocks
 row_blocks_of r row e = ap row_blocks e
 
-blocks_of_kept : (s : GroupValue) (t : Table) (layouts : Layouts) (agino : ℕ) (inode : Inode) (row : Row) (of : Incore) (o : Option Kept) → HasRowAt s agino t layouts inode row → incore_at s.cache agino ≡ o
+blocks_of_kept : (s : StateValue) (t : Table) (layouts : Layouts) (agino : ℕ) (inode : Inode) (row : Row) (of : Incore) (o : Option Kept) → HasRowAt s agino t layouts inode row → incore_at s.cache agino ≡ o
     → IsSomeAnd o (λ kept. kept.inode ≡ of) → of.blocks ≡ row.blocks
 blocks_of_kept s t layouts agino inode row of None has at found = absurd found
 blocks_of_kept s t layouts agino inode row of (Some kept) has at found =
@@ -105,7 +105,7 @@ blocks_of_kept s t layouts agino inode row of (Some kept) has at found =
     ap (λ (i : Incore). i.blocks) (sym found ∙ same) ∙ row_blocks_of inode.row row has.used
 
 -- the blocks of a number in core are those of its row
-pub blocks_in_core : (s : GroupValue) (t : Table) (layouts : Layouts) (agino : ℕ) (inode : Inode) (row : Row) (of : Incore) → HasRowAt s agino t layouts inode row
+pub blocks_in_core : (s : StateValue) (t : Table) (layouts : Layouts) (agino : ℕ) (inode : Inode) (row : Row) (of : Incore) → HasRowAt s agino t layouts inode row
     → IsSomeAnd (incore_at s.cache agino) (λ kept. kept.inode ≡ of) → of.blocks ≡ row.blocks
 blocks_in_core s t layouts agino inode row of has found = blocks_of_kept s t layouts agino inode row of (incore_at s.cache agino) has refl found
 
@@ -123,6 +123,6 @@ extents_of layouts group agino core (Some other) inode row told there used =
     let same : core ≡ core_for other.generation other.row next = cc in
     told_extents other.generation next other.row row core (ap (λ (i : Inode). i.row) (same_Some other inode there) ∙ used) same
 
-pub extents_told : (s : GroupValue) (t : Table) (layouts : Layouts) (agino : ℕ) (core : Core) (inode : Inode) (row : Row) → HasRowAt s agino t layouts inode row
+pub extents_told : (s : StateValue) (t : Table) (layouts : Layouts) (agino : ℕ) (core : Core) (inode : Inode) (row : Row) → HasRowAt s agino t layouts inode row
     → Some core ≡ core_told layouts s.group agino (inode_in (group_at t s.group) agino) → core.extents ≡ length (runs row.blocks)
 extents_told s t layouts agino core inode row has told = extents_of layouts s.group agino core (inode_in (group_at t s.group) agino) inode row told has.inode_there has.used

@@ -24,7 +24,7 @@ use Rattle.life_table.specs.WellFormed.{IsChunk, IsGroup}
 use Rattle.sound_image.specs.Places.{bytes_at, sector_in}
 use Rattle.sound_image.specs.Encoding.{CanEncode, Layouts, bucket_list, core_for, encoded, inode_sector, next_in}
 use Rattle.group_ops.specs.Buffers.{buffer_in}
-use Rattle.group_ops.specs.Values.{GroupValue}
+use Rattle.group_ops.specs.Values.{StateValue}
 use Rattle.group_ops.specs.Represents.{HasInode, IsGroupOf, incore_for}
 use Rattle.group_ops.specs.Telling.{core_told}
 use Rattle.group_ops.proofs.Places.{none_there}
@@ -44,7 +44,7 @@ CoresStand = (g : Geometry) (t : Table) (layouts : Layouts) (image : List Sector
 pub blank : Geometry → List Sector
 blank g = replicate (g.groups * group_sectors g) zero_sector
 
-pub can_encode : (s : GroupValue) (t : Table) (layouts : Layouts) → IsGeometry s.geometry → IsGroupOf s t layouts → CanEncode s.geometry t layouts (blank s.geometry)
+pub can_encode : (s : StateValue) (t : Table) (layouts : Layouts) → IsGeometry s.geometry → IsGroupOf s t layouts → CanEncode s.geometry t layouts (blank s.geometry)
 unfolding blank
 can_encode s t layouts shape is = record {
   shape = shape;
@@ -56,7 +56,7 @@ can_encode s t layouts shape is = record {
 }
 
 -- the buffer of an inode that is not dirty encodes its core
-pub encodes : SectorsStand → CoresStand → (s : GroupValue) (t : Table) (layouts : Layouts) (agino : ℕ) (inode : Inode) (bytes : List ℕ) → IsGeometry s.geometry → s.group < s.geometry.groups
+pub encodes : SectorsStand → CoresStand → (s : StateValue) (t : Table) (layouts : Layouts) (agino : ℕ) (inode : Inode) (bytes : List ℕ) → IsGeometry s.geometry → s.group < s.geometry.groups
     → IsGroupOf s t layouts → inode_in (group_at t s.group) agino ≡ Some inode → bytes ≡ incore_encoding s.group s.geometry.uuid agino (incore_for layouts s.group agino inode)
     → EncodesCore bytes (number_in s.group agino) s.geometry.uuid (incore_for layouts s.group agino inode).core
 unfolding inode_sector
@@ -67,7 +67,7 @@ encodes sectors cores s t layouts agino inode bytes shape inside is there same =
     (cores s.geometry t layouts (blank s.geometry) s.group agino inode can inside there)
 
 -- an inode in core is the one that the table has
-in_core_of : (layouts : Layouts) (group agino : ℕ) (s : GroupValue) (kept : Kept) (o : Option Inode) → incore_at s.cache agino ≡ Some kept
+in_core_of : (layouts : Layouts) (group agino : ℕ) (s : StateValue) (kept : Kept) (o : Option Inode) → incore_at s.cache agino ≡ Some kept
     → ((inode : Inode) → o ≡ Some inode → HasInode s agino (incore_for layouts group agino inode)) → (o ≡ None → incore_at s.cache agino ≡ None)
     → Some kept.inode.core ≡ core_told layouts group agino o
 in_core_of layouts group agino s kept None at has only = absurd (cc (at, only refl))
@@ -75,24 +75,24 @@ in_core_of layouts group agino s kept (Some inode) at has only =
     let same = subst (λ (k : Option Kept). IfSome k (λ x. x.inode ≡ incore_for layouts group agino inode)) at (has inode refl).in_core in
     ap (λ (i : Incore). Some i.core) same
 
-pub told_in_core : (s : GroupValue) (t : Table) (layouts : Layouts) (agino : ℕ) (kept : Kept) → IsGroupOf s t layouts → incore_at s.cache agino ≡ Some kept
+pub told_in_core : (s : StateValue) (t : Table) (layouts : Layouts) (agino : ℕ) (kept : Kept) → IsGroupOf s t layouts → incore_at s.cache agino ≡ Some kept
     → Some kept.inode.core ≡ core_told layouts s.group agino (inode_in (group_at t s.group) agino)
 told_in_core s t layouts agino kept is at = in_core_of layouts s.group agino s kept (inode_in (group_at t s.group) agino) at (λ inode e. is.inodes agino inode e) (λ e. is.only agino e)
 
 -- a number without a buffer has no inode
-no_buffer_of : (layouts : Layouts) (group agino : ℕ) (s : GroupValue) (o : Option Inode) → buffer_in s.buffers agino ≡ None
+no_buffer_of : (layouts : Layouts) (group agino : ℕ) (s : StateValue) (o : Option Inode) → buffer_in s.buffers agino ≡ None
     → ((inode : Inode) → o ≡ Some inode → HasInode s agino (incore_for layouts group agino inode)) → None ≡ core_told layouts group agino o
 no_buffer_of layouts group agino s None gone has = refl
 no_buffer_of layouts group agino s (Some inode) gone has =
     absurd (subst (λ (b : Option Sector). IsSomeAnd b (λ sector. is_dirty (incore_at s.cache agino) ≡ false
     → sector.bytes ≡ incore_encoding s.group s.geometry.uuid agino (incore_for layouts group agino inode))) gone (has inode refl).buffer)
 
-pub told_no_buffer : (s : GroupValue) (t : Table) (layouts : Layouts) (agino : ℕ) → IsGroupOf s t layouts → buffer_in s.buffers agino ≡ None
+pub told_no_buffer : (s : StateValue) (t : Table) (layouts : Layouts) (agino : ℕ) → IsGroupOf s t layouts → buffer_in s.buffers agino ≡ None
     → None ≡ core_told layouts s.group agino (inode_in (group_at t s.group) agino)
 told_no_buffer s t layouts agino is gone = no_buffer_of layouts s.group agino s (inode_in (group_at t s.group) agino) gone (λ inode e. is.inodes agino inode e)
 
 -- the core that a buffer gives, of a number that is not in core
-buffer_of : (layouts : Layouts) (group agino : ℕ) (s : GroupValue) (sector : Sector) (read : Option Core) (o : Option Inode) → incore_at s.cache agino ≡ None → buffer_in s.buffers agino ≡ Some sector
+buffer_of : (layouts : Layouts) (group agino : ℕ) (s : StateValue) (sector : Sector) (read : Option Core) (o : Option Inode) → incore_at s.cache agino ≡ None → buffer_in s.buffers agino ≡ Some sector
     → ((inode : Inode) → o ≡ Some inode → HasInode s agino (incore_for layouts group agino inode)) → (o ≡ None → buffer_in s.buffers agino ≡ None)
     → ((inode : Inode) → o ≡ Some inode → sector.bytes ≡ incore_encoding s.group s.geometry.uuid agino (incore_for layouts group agino inode) → read ≡ Some (incore_for layouts group agino inode).core)
     → read ≡ core_told layouts group agino o
@@ -111,7 +111,7 @@ groups_get blocks (g ∷ gs) (suc n) all = groups_get blocks gs n all.1
 pub chunks_of : (t : Table) (group : ℕ) → AllByRecursion (IsGroup t.blocks) t.groups → AllByRecursion IsChunk (group_at t group)
 chunks_of t group all = groups_get t.blocks t.groups group all
 
-pub told_buffer : SectorsStand → CoresStand → (s : GroupValue) (t : Table) (layouts : Layouts) (agino : ℕ) (sector : Sector) (read : Option Core) → IsGeometry s.geometry
+pub told_buffer : SectorsStand → CoresStand → (s : StateValue) (t : Table) (layouts : Layouts) (agino : ℕ) (sector : Sector) (read : Option Core) → IsGeometry s.geometry
     → s.group < s.geometry.groups → IsGroupOf s t layouts → incore_at s.cache agino ≡ None → buffer_in s.buffers agino ≡ Some sector
     → ((core : Core) → EncodesCore sector.bytes (number_in s.group agino) s.geometry.uuid core → read ≡ Some core)
     → read ≡ core_told layouts s.group agino (inode_in (group_at t s.group) agino)
@@ -123,12 +123,12 @@ told_buffer sectors cores s t layouts agino sector read shape inside is out at o
 
 -- ---- as the code looks an inode up
 
-found_of : (s : GroupValue) (t : Table) (layouts : Layouts) (agino : ℕ) (inode : Incore) (o : Option Kept) → IsGroupOf s t layouts → incore_at s.cache agino ≡ o
+found_of : (s : StateValue) (t : Table) (layouts : Layouts) (agino : ℕ) (inode : Incore) (o : Option Kept) → IsGroupOf s t layouts → incore_at s.cache agino ≡ o
     → IsSomeAnd o (λ kept. kept.inode ≡ inode) → Some inode.core ≡ core_told layouts s.group agino (inode_in (group_at t s.group) agino)
 found_of s t layouts agino inode None is at found = absurd found
 found_of s t layouts agino inode (Some kept) is at found = ap (λ (i : Incore). Some i.core) (sym found) ∙ told_in_core s t layouts agino kept is at
 
-pub told_found : (s : GroupValue) (t : Table) (layouts : Layouts) (agino : ℕ) (inode : Incore) → IsGroupOf s t layouts → IsSomeAnd (incore_at s.cache agino) (λ kept. kept.inode ≡ inode)
+pub told_found : (s : StateValue) (t : Table) (layouts : Layouts) (agino : ℕ) (inode : Incore) → IsGroupOf s t layouts → IsSomeAnd (incore_at s.cache agino) (λ kept. kept.inode ≡ inode)
     → Some inode.core ≡ core_told layouts s.group agino (inode_in (group_at t s.group) agino)
 told_found s t layouts agino inode is found = found_of s t layouts agino inode (incore_at s.cache agino) is refl found
 

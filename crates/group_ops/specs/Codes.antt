@@ -6,7 +6,7 @@ use Rattle.geometry.specs.declared.shape.Geometry.{Geometry}
 use Rattle.inobt_leaf.specs.declared.chunk.ChunkRec.{ChunkRec}
 use Rattle.inode_cache.specs.Caches.{Cache, cache_code}
 use Rattle.group_ops.specs.Buffers.{Buffers}
-use Rattle.group_ops.specs.Values.{GroupValue}
+use Rattle.group_ops.specs.Values.{StateValue}
 
 abbrev pub geometry_code : Coded Geometry
 geometry_code =
@@ -26,7 +26,7 @@ sector_code = code_by (List ℕ) (coded_list coded_ℕ) (λ s. s.bytes) (λ byte
 abbrev pub buffers_code : Coded Buffers
 buffers_code = code_by (ℕ × List Sector) (coded× coded_ℕ (coded_list sector_code)) (λ b. (b.start, b.sectors)) (λ p. record { start = p.0; sectors = p.1 }) (λ _. refl)
 
-abbrev pub group_code : Coded GroupValue
+abbrev pub group_code : Coded StateValue
 group_code =
     code_by
     (Geometry × (ℕ × (ℕ × (List ℕ × (List ChunkRec × (List Bool × (List Buffers × Cache)))))))

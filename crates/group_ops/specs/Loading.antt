@@ -17,10 +17,10 @@ abbrev pub ShowChunks : Geometry → List Sector → ℕ → List Buffers → Ty
 ShowChunks g image group chunks = All (λ (chunk : Buffers). Shows image (sector_in g group chunk.start) chunk.sectors) chunks
 
 -- a read fault comes only where the count of faults rose
-abbrev pub IsCaused : ℕ → ℕ → LoadFault → Type 0
-IsCaused before now (Damaged rule sector) = ⊤
-IsCaused before now ReadFault = Rose before now
-IsCaused before now NoMemory = ⊤
+abbrev pub IsLoadCause : ℕ → ℕ → LoadFault → Type 0
+IsLoadCause before now (Damaged rule sector) = ⊤
+IsLoadCause before now ReadFault = Rose before now
+IsLoadCause before now NoMemory = ⊤
 
 -- a fault that no damage is
 abbrev pub IsNoDamage : LoadFault → Type 0

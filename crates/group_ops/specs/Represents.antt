@@ -14,7 +14,7 @@ use Rattle.inode_cache.specs.declared.inode.Incore.{Incore}
 use Rattle.inode_cache.specs.Caches.{incore_at, is_dirty}
 use Rattle.inode_cache.specs.Inodes.{incore_encoding}
 use Rattle.group_ops.specs.Buffers.{Buffers, buffer_in}
-use Rattle.group_ops.specs.Values.{GroupValue}
+use Rattle.group_ops.specs.Values.{StateValue}
 
 -- an inode of a group as it is in core, with the pointer of its list
 abbrev pub incore_for : Layouts → ℕ → ℕ → Inode → Incore
@@ -25,13 +25,13 @@ incore_for layouts group agino inode =
     }
 
 -- A state has this inode at a number: the inode in core is it, where one is there; and the buffer is its sector, unless the inode in core is dirty.
-pub record HasInode (s : GroupValue) (agino : ℕ) (inode : Incore) : Type 0 where
+pub record HasInode (s : StateValue) (agino : ℕ) (inode : Incore) : Type 0 where
   pub in_core : IfSome (incore_at s.cache agino) (λ kept. kept.inode ≡ inode)
   pub buffer : IsSomeAnd (buffer_in s.buffers agino) (λ sector. is_dirty (incore_at s.cache agino) ≡ false
       → sector.bytes ≡ incore_encoding s.group s.geometry.uuid agino inode)
 
 -- The state is its group of this table with these layouts. Who holds an inode is not seen.
-pub record IsGroupOf (s : GroupValue) (t : Table) (layouts : Layouts) : Type 0 where
+pub record IsGroupOf (s : StateValue) (t : Table) (layouts : Layouts) : Type 0 where
   pub table : IsTable t
   pub layouts_of : AreLayouts t layouts
   pub groups : length t.groups ≡ s.geometry.groups
@@ -46,5 +46,5 @@ pub record IsGroupOf (s : GroupValue) (t : Table) (layouts : Layouts) : Type 0 w
   pub only : (agino : ℕ) → inode_in (group_at t s.group) agino ≡ None → incore_at s.cache agino ≡ None
 
 -- the state is its group of some table
-abbrev pub RepresentsGroup : GroupValue → Type 0
+abbrev pub RepresentsGroup : StateValue → Type 0
 RepresentsGroup s = (t : Table) × (layouts : Layouts) × IsGroupOf s t layouts

@@ -8,7 +8,7 @@ use Rattle.group_ops.specs.Buffers.{AreBuffers, Buffers, BuffersAscend}
 
 -- The geometry and the number of the group; the block of its page; the heads of its unlinked buckets; the records of its chunks; which of its blocks are
 -- free; the buffers of its inodes; its inodes in core.
-pub record GroupValue : Type 0 where
+pub record StateValue : Type 0 where
   pub geometry : Geometry
   pub group : ℕ
   pub page : ℕ

@@ -15,7 +15,7 @@ ghost use Rattle.sound_image.specs.Encoding.{CanEncode, Layouts, chunk_record, e
 ghost use Rattle.sound_image.specs.Places.{bytes_at, header_place, sector_in};
 ghost use Rattle.sound_image.specs.Rules.{IsInData, free_set};
 ghost use Rattle.group_ops.specs.Buffers.{AreBuffers, Buffers};
-ghost use Rattle.group_ops.specs.Loading.{IsCaused, IsNoDamage, ShowChunks, Shows};
+ghost use Rattle.group_ops.specs.Loading.{IsLoadCause, IsNoDamage, ShowChunks, Shows};
 ghost use Rattle.group_ops.specs.Represents.{IsGroupOf};
 
 use crate::buffers::ChunkBuffers;
@@ -63,7 +63,7 @@ fn load_header<V: View>(view: &mut V, g: &Geometry, group: u32) -> Result<Agi, L
     ensures allowed { IfOk result IsAgi }
     ensures damaged { IsTrue V.known → (t : Table) (layouts : Layouts) (rest : List Sector) → CanEncode g.now t layouts rest
         → V.image view.old ≡ encoded g.now t layouts rest → IfErr result IsNoDamage }
-    ensures cause { IfErr result (IsCaused (V.fault_count view.old) (V.fault_count view.new)) }
+    ensures cause { IfErr result (IsLoadCause (V.fault_count view.old) (V.fault_count view.new)) }
     ensures only_read { V.only_read view.old view.new }
 {
     encoded_places();
@@ -94,7 +94,7 @@ fn load_leaf<V: View>(
         → V.image view.old ≡ encoded g.now t layouts rest → root ≡ page_of layouts group → IfOk result (λ leaf. leaf ≡ map chunk_record (group_at t group)) }
     ensures damaged { IsTrue V.known → (t : Table) (layouts : Layouts) (rest : List Sector) → CanEncode g.now t layouts rest
         → V.image view.old ≡ encoded g.now t layouts rest → root ≡ page_of layouts group → IfErr result IsNoDamage }
-    ensures cause { IfErr result (IsCaused (V.fault_count view.old) (V.fault_count view.new)) }
+    ensures cause { IfErr result (IsLoadCause (V.fault_count view.old) (V.fault_count view.new)) }
     ensures only_read { V.only_read view.old view.new }
 {
     encoded_places();
@@ -124,7 +124,7 @@ fn load_map<V: View>(
     ensures map { IsTrue V.known → (t : Table) (layouts : Layouts) (rest : List Sector) → CanEncode g.now t layouts rest
         → V.image view.old ≡ encoded g.now t layouts rest → IfOk result (λ free. free ≡ free_set g.now.blocks (group_at t group)) }
     ensures no_damage { IfErr result IsNoDamage }
-    ensures cause { IfErr result (IsCaused (V.fault_count view.old) (V.fault_count view.new)) }
+    ensures cause { IfErr result (IsLoadCause (V.fault_count view.old) (V.fault_count view.new)) }
     ensures only_read { V.only_read view.old view.new }
 {
     encoded_places();
@@ -151,7 +151,7 @@ fn load_chunk<V: View>(
     ensures start { IfOk result (λ chunk. chunk.start ≡ start) }
     ensures whole { IfOk result (λ chunk. AreBuffers chunk.start chunk.sectors) }
     ensures damaged { start + CHUNK_INODES ≤ group_sectors g.now → IfErr result IsNoDamage }
-    ensures cause { IfErr result (IsCaused (V.fault_count view.old) (V.fault_count view.new)) }
+    ensures cause { IfErr result (IsLoadCause (V.fault_count view.old) (V.fault_count view.new)) }
     ensures only_read { V.only_read view.old view.new }
 {
     if g.blocks * BLOCK_SECTORS - CHUNK_INODES < start {
@@ -181,7 +181,7 @@ fn load_chunks<V: View>(
     ensures starts { IfOk result (λ chunks. map (λ (chunk : Buffers). chunk.start) chunks.items ≡ map (λ (chunk : ChunkRec). chunk.start) records.now) }
     ensures whole { IfOk result (λ chunks. All (λ (chunk : Buffers). AreBuffers chunk.start chunk.sectors) chunks.items) }
     ensures damaged { All (IsInData g.now.blocks) records.now → IfErr result IsNoDamage }
-    ensures cause { IfErr result (IsCaused (V.fault_count view.old) (V.fault_count view.new)) }
+    ensures cause { IfErr result (IsLoadCause (V.fault_count view.old) (V.fault_count view.new)) }
     ensures only_read { V.only_read view.old view.new }
 {
     let mut chunks = Vec::new(alloc);
@@ -208,7 +208,7 @@ pub fn load_group<V: View>(
         → V.image view.old ≡ encoded g.now t layouts rest → IfErr result IsNoDamage }
     ensures own { IfOk result (λ state. (state.geometry ≡ g.now) × (state.group ≡ group)) }
     ensures nothing_in_core { IfOk result (λ state. state.cache.inodes ≡ finmap.empty) }
-    ensures read_fault { IfErr result (IsCaused (V.fault_count view.old) (V.fault_count view.new)) }
+    ensures read_fault { IfErr result (IsLoadCause (V.fault_count view.old) (V.fault_count view.new)) }
     ensures only_read { V.only_read view.old view.new }
 {
     encoded_places();

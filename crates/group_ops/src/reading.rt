@@ -2,7 +2,7 @@
 
 ghost use Rattle.std.specs.Prelude.{◌≡◌, ◌≤◌, ◌<◌, ◌+◌, ◌^◌, IsTrue, IfOk, IfErr, length};
 ghost use Rattle.sound_image.specs.Places.{bytes_at};
-ghost use Rattle.group_ops.specs.Loading.{IsCaused, IsNoDamage, Shows};
+ghost use Rattle.group_ops.specs.Loading.{IsLoadCause, IsNoDamage, Shows};
 
 use crate::fault::LoadFault;
 use disk_model::View;
@@ -13,7 +13,7 @@ pub(crate) fn read_sector<V: View>(view: &mut V, at: u64) -> Result<Sector, Load
     requires { at < V.sector_count view.old }
     ensures shown { IsTrue V.known → IfOk result (λ sector. bytes_at (V.image view.old) at ≡ sector.bytes) }
     ensures no_damage { IfErr result IsNoDamage }
-    ensures cause { IfErr result (IsCaused (V.fault_count view.old) (V.fault_count view.new)) }
+    ensures cause { IfErr result (IsLoadCause (V.fault_count view.old) (V.fault_count view.new)) }
     ensures only_read { V.only_read view.old view.new }
 {
     let mut sector = Sector::zero();
@@ -33,7 +33,7 @@ pub(crate) fn read_sectors<V: View>(
     ensures shown { IsTrue V.known → IfOk result (λ sectors. Shows (V.image view.old) at sectors.items) }
     ensures many { IfOk result (λ sectors. length sectors.items ≡ count) }
     ensures no_damage { IfErr result IsNoDamage }
-    ensures cause { IfErr result (IsCaused (V.fault_count view.old) (V.fault_count view.new)) }
+    ensures cause { IfErr result (IsLoadCause (V.fault_count view.old) (V.fault_count view.new)) }
     ensures only_read { V.only_read view.old view.new }
 {
     let mut sectors = Vec::new(alloc);

@@ -19,7 +19,7 @@ ghost use Rattle.life_table.specs.Table.{group_at, inode_in, row_of};
 ghost use Rattle.sound_image.specs.Encoding.{Layouts};
 ghost use Rattle.group_ops.specs.Buffers.{AreBuffers, Buffers, BuffersAscend};
 ghost use Rattle.group_ops.specs.Represents.{IsGroupOf};
-ghost use Rattle.group_ops.specs.Telling.{HasRow, HasRowAt, core_told};
+ghost use Rattle.group_ops.specs.Telling.{HasRowOf, HasRowAt, core_told};
 
 use crate::buffers::{ChunkBuffers, find_buffer};
 use ag_header::Agi;
@@ -55,9 +55,9 @@ pub struct GroupState {
 
 impl Model for GroupState {
     ghost use Rattle.group_ops.specs.Codes.{group_code};
-    ghost use Rattle.group_ops.specs.Values.{GroupValue, IsState};
+    ghost use Rattle.group_ops.specs.Values.{StateValue, IsState};
 
-    ghost Value = { GroupValue };
+    ghost Value = { StateValue };
 
     ghost coded = { group_code };
 
@@ -203,7 +203,7 @@ impl GroupState {
     /// What the row of a key has: its links, how many blocks, and their longest runs.
     pub fn stat(&self, key: Key) -> Result<Reply, NoMemory>
         requires own { key.number / GROUP_NUMBERS ≡ self.now.group }
-        requires row { HasRow self.now key }
+        requires row { HasRowOf self.now key }
         ensures { (t : Table) (layouts : Layouts) → IsGroupOf self.now t layouts → IfOk result (λ reply. reply ≡ reply_of t (Stat key)) }
     {
         let agino = agino_of(key);

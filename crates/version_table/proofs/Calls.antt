@@ -16,7 +16,7 @@ use Rattle.version_table.specs.declared.story.Story.{Story}
 use Rattle.version_table.specs.Story.{sight, line, longer, seen_of, known_of, own_place, Keeps, new_keeper, nothing_known, saw, entered, warning, telling, handed_over, with_story}
 use Rattle.version_table.specs.Rule.{Fits, Told}
 use Rattle.version_table.specs.Steps.{Loaded}
-use Rattle.version_table.specs.Ends.{VersionsState, ReaderState, KeeperState, reader_state, new_reader, new_keeper_state, IsReader, IsKeeper, IsMaker, AreKeepers, IsEntered, IsToldOf}
+use Rattle.version_table.specs.Ends.{VersionsState, ReaderState, KeeperState, reader_state, new_reader, new_keeper_state, IsReader, IsKeeper, IsMaker, AreVersionKeepers, IsEntered, IsToldOf}
 use Rattle.version_table.proofs.Lists.{at_word, by_test, longer-first}
 
 -- the numbers after one of them was seen anew
@@ -118,9 +118,9 @@ get_last [] c (suc g) last = absurd (omega arith)
 get_last (x ∷ cs) c zero last = absurd (omega arith)
 get_last (x ∷ cs) c (suc g) last = get_last cs c g (omega arith)
 
-pub one_more_keeper : (versions : VersionsState) (group : ℕ) (ks new : List KeeperState) (k : KeeperState) → AreKeepers versions group ks → new ≡ ks ++ k ∷ [] → k ≡ new_keeper_state versions group
-    → AreKeepers versions (group + 1) new
-one_more_keeper versions group ks new k are is k_is = subst (λ (l : List KeeperState). AreKeepers versions (group + 1) l) (sym is) (record {
+pub one_more_keeper : (versions : VersionsState) (group : ℕ) (ks new : List KeeperState) (k : KeeperState) → AreVersionKeepers versions group ks → new ≡ ks ++ k ∷ [] → k ≡ new_keeper_state versions group
+    → AreVersionKeepers versions (group + 1) new
+one_more_keeper versions group ks new k are is k_is = subst (λ (l : List KeeperState). AreVersionKeepers versions (group + 1) l) (sym is) (record {
   one_each = length-append ks (k ∷ []) ∙ ap (λ (n : ℕ). n + 1) are.one_each;
   each = λ g below. dite (ℕ_discrete g group)
       (λ e. get_last ks k g (e ∙ sym are.one_each) ∙ ap Some k_is ∙ ap (λ (n : ℕ). Some (new_keeper_state versions n)) (sym e))

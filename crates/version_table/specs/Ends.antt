@@ -74,7 +74,7 @@ IsMaker versions made name me = (left : ℕ) × (made + left ≡ versions.groups
     × (me ≡ (new_keeper made left, []))
 
 -- one keeper for each of the first groups
-pub record AreKeepers (versions : VersionsState) (groups : ℕ) (keepers : List KeeperState) : Type 0 where
+pub record AreVersionKeepers (versions : VersionsState) (groups : ℕ) (keepers : List KeeperState) : Type 0 where
   pub one_each : length keepers ≡ groups
   pub each : (group : ℕ) → group < groups → slice_get keepers group ≡ Some (new_keeper_state versions group)
 
@@ -82,4 +82,4 @@ pub record AreKeepers (versions : VersionsState) (groups : ℕ) (keepers : List 
 pub record AreNewVersions (groups count : ℕ) (versions : VersionsState) (readers : List ReaderState) (keepers : List KeeperState) : Type 0 where
   pub groups_are : versions.groups ≡ groups
   pub readers_are : readers ≡ replicate count (new_reader versions)
-  pub keepers_are : AreKeepers versions versions.groups keepers
+  pub keepers_are : AreVersionKeepers versions versions.groups keepers

@@ -1,6 +1,6 @@
 // The making of the versions.
 ghost use Rattle.std.specs.Prelude.{◌≡◌, ◌+◌, ◌<◌, ◌≤◌, ℕ, IfOk, replicate};
-ghost use Rattle.version_table.specs.Ends.{AreKeepers, AreNewVersions, IsMaker, new_keeper_state, new_reader};
+ghost use Rattle.version_table.specs.Ends.{AreVersionKeepers, AreNewVersions, IsMaker, new_keeper_state, new_reader};
 
 use crate::keeper::VersionKeeper;
 use crate::reader::Reader;
@@ -90,7 +90,7 @@ fn make_keepers(
 ) -> Result<Vec<VersionKeeper>, NoMemory>
     requires maker { IsMaker versions.now 0 maker.old.table_id maker.old.me }
     requires groups { groups ≡ versions.now.groups }
-    ensures { IfOk result (λ made. AreKeepers versions.now groups made.items) }
+    ensures { IfOk result (λ made. AreVersionKeepers versions.now groups made.items) }
 {
     let mut keepers = Vec::new(alloc);
     for group in 0..groups {

@@ -10,7 +10,7 @@ use Rattle.slot_words.specs.Steps.{is_awaiting, after_install, after_retire, aft
 use Rattle.word_table.specs.declared.known.Known.{Known}
 use Rattle.word_table.specs.Words.{parts_of, IsStill, Tells}
 use Rattle.word_table.specs.Known.{hold, times, without, last_of, looked, pinned, unpinned, Keeps}
-use Rattle.word_table.specs.Steps.{Looked, Changed, Installed}
+use Rattle.word_table.specs.Steps.{Looked, WordChanged, Installed}
 use Rattle.word_table.specs.Replies.{IsTaken, IsInstalled, IsInstalledHeld, Retired, Killed}
 use Rattle.word_table.proofs.Lists.{times-same, is_hold-here}
 use Rattle.word_table.proofs.Parts.{Installs, Kills, awaiting-says}
@@ -52,7 +52,7 @@ brought slots place generation seen next found unlinked me0 me1 me2 own away st1
 
 -- an exchange that is made, or finds another word
 pub retired_by : (slots place seen next found : ℕ) (me0 me1 me2 : Me ℕ Known) → Keeps me0.0 place → Looked (step slots place 0 0 none) me0 seen me1
-    → Some next ≡ numbered (after_retire (parts_of seen)) → Changed (step slots place seen next none) me1 found me2 → Retired place me0.0 (eqb found seen) me2.0
+    → Some next ≡ numbered (after_retire (parts_of seen)) → WordChanged (step slots place seen next none) me1 found me2 → Retired place me0.0 (eqb found seen) me2.0
 retired_by slots place seen next found me0 me1 me2 own st1 is st2 = dite (ℕ_discrete found seen)
     (λ hit. subst (λ (b : Bool). Retired place me0.0 b me2.0) (sym (eq-eqb found seen hit))
     (seen, next, st1.tells own, is, st2.hit hit ∙ ap (looked place next) st1.view))
@@ -61,14 +61,14 @@ retired_by slots place seen next found me0 me1 me2 own st1 is st2 = dite (ℕ_di
 
 -- the exchange of a word that only its keeper changes is made
 pub killed_by : (slots place generation seen next found : ℕ) (me0 me1 me2 : Me ℕ Known) → Keeps me0.0 place → Looked (step slots place 0 0 none) me0 seen me1
-    → Kills generation seen next → Changed (step slots place seen next none) me1 found me2 → found ≡ seen
+    → Kills generation seen next → WordChanged (step slots place seen next none) me1 found me2 → found ≡ seen
 killed_by slots place generation seen next found me0 me1 me2 own st1 makes st2 =
     let after = seen_last place seen me0.0 me1.0 st1.view in
     let waits : IsStill (parts_of (last_of place me1.0.looks)) = subst (λ (n : ℕ). IsStill (parts_of n)) (sym after) (inr (makes.mark, makes.no_pins)) in
     st2.rests (Keeps-same (looked place seen me0.0) me1.0 place st1.view own) waits ∙ after
 
 pub killed_is : (slots place generation seen next found : ℕ) (me0 me1 me2 : Me ℕ Known) → Keeps me0.0 place → Looked (step slots place 0 0 none) me0 seen me1
-    → Some next ≡ numbered (after_kill generation (parts_of seen)) → Kills generation seen next → Changed (step slots place seen next none) me1 found me2
+    → Some next ≡ numbered (after_kill generation (parts_of seen)) → Kills generation seen next → WordChanged (step slots place seen next none) me1 found me2
     → Killed place generation me0.0 (eqb found seen) me2.0
 killed_is slots place generation seen next found me0 me1 me2 own st1 is makes st2 =
     let hit = killed_by slots place generation seen next found me0 me1 me2 own st1 makes st2 in

@@ -14,7 +14,7 @@ use Rattle.word_table.specs.declared.known.Known.{Known}
 use Rattle.word_table.specs.Words.{parts_of, pins_of, IsPinned, Tells}
 use Rattle.word_table.specs.Known.{look, times, last_of, looked, pinned, unpinned, fronted, Keeps, nothing_known, without_first, first_alone, with_pins}
 use Rattle.word_table.specs.Rule.{Kept}
-use Rattle.word_table.specs.Steps.{Holds, Looked, Pinned, Unpinned, Fronted, Changed, Installed, Marked, Unmarked, Rests, CanChange, CanInstall}
+use Rattle.word_table.specs.Steps.{Holds, Looked, Pinned, Unpinned, Fronted, WordChanged, Installed, Marked, Unmarked, Rests, CanChange, CanInstall}
 use Rattle.word_table.proofs.Lists.{term_le, times-same, times-other, times-without, times-without_other, times-fronted, times-parts, times-append}
 use Rattle.word_table.proofs.Parts.{Tells-same, Tells-pins, IsRight-pins, pins_of-here, pins_of-other, pinned_word, Opens, open_moves, pinned_moves, closes, pins_of-none, pins_of-dead, Marks, marks, unmarks}
 use Rattle.word_table.proofs.Kept.{kept, keeper_kept, split_kept, joined_kept, nothing-kept}
@@ -166,10 +166,10 @@ rests count s id k v was at own still = (was.tells id k v at own).still still
 
 -- an exchange that leaves a word without pins
 pub changes : (count slots id k seen next : ℕ) (me : Me ℕ Known) → k < count → Keeps me.0 k → CanChange seen next
-    → Allows (Kept count) slots id me k (λ n. either (eqb n seen) next n) (Changed (step slots k seen next none) me)
+    → Allows (Kept count) slots id me k (λ n. either (eqb n seen) next n) (WordChanged (step slots k seen next none) me)
 changes count slots id k seen next me inside own can s was homes at fits =
     let n = get_or s.words k 0 in
-    exchanged n seen next (λ m. (w : Known) × (a : Act ℕ) × Valid s.homes me.1 a × Kept count (stepped s k m id me.1 w a) × Changed (step slots k seen next none) me n (w, carried_after me.1 a))
+    exchanged n seen next (λ m. (w : Known) × (a : Act ℕ) × Valid s.homes me.1 a × Kept count (stepped s k m id me.1 w a) × WordChanged (step slots k seen next none) me n (w, carried_after me.1 a))
     (λ hit. (
       looked k next me.0,
       keeps,

@@ -42,7 +42,7 @@ abbrev pub Rests : ℕ → Known → ℕ → Type 0
 Rests place v found = Keeps v place → IsStill (parts_of (last_of place v.looks)) → found ≡ last_of place v.looks
 
 -- A compare and exchange by the keeper, which leaves the pins.
-pub record Changed (s : Step ℕ) (v : Me ℕ Known) (found : ℕ) (w : Me ℕ Known) : Type 0 where
+pub record WordChanged (s : Step ℕ) (v : Me ℕ Known) (found : ℕ) (w : Me ℕ Known) : Type 0 where
   pub slots : w.1 ≡ v.1
   pub hit : found ≡ s.first → w.0 ≡ looked s.word s.second v.0
   pub miss : found ≢ s.first → w.0 ≡ looked s.word found v.0

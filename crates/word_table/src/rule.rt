@@ -62,9 +62,9 @@ impl Play<u8, Known> for Front {
 pub struct Change;
 
 impl Play<u8, Known> for Change {
-    ghost use Rattle.word_table.specs.Steps.{Changed};
+    ghost use Rattle.word_table.specs.Steps.{WordChanged};
 
-    ghost then = { Changed };
+    ghost then = { WordChanged };
 }
 
 /// The keeper brings an inode into the cache.

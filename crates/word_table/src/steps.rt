@@ -7,7 +7,7 @@ ghost use Rattle.slot_words.specs.Words.{numbered};
 ghost use Rattle.slot_words.specs.Steps.{after_open};
 ghost use Rattle.word_table.specs.Words.{parts_of};
 ghost use Rattle.word_table.specs.Known.{times, pinned, unpinned, Keeps};
-ghost use Rattle.word_table.specs.Steps.{CanChange, CanInstall, Changed, Installed, Looked, Pinned, Remarked, Unpinned};
+ghost use Rattle.word_table.specs.Steps.{CanChange, CanInstall, WordChanged, Installed, Looked, Pinned, Remarked, Unpinned};
 
 use crate::rule::{
     Carry, Change, Front, Install, LookAt, Mark, PinOne, Unmark, Unpin, WordSeat, Words,
@@ -82,7 +82,7 @@ pub fn change(words: &Words, seat: &mut WordSeat, place: usize, seen: u64, next:
     requires keeps { Keeps seat.old.me.0 place }
     requires next { CanChange seen next }
     ensures seat { seat.new.table_id ≡ seat.old.table_id }
-    ensures step { Changed (step words.now.table_id.slots place seen next none) seat.old.me result seat.new.me }
+    ensures step { WordChanged (step words.now.table_id.slots place seen next none) seat.old.me result seat.new.me }
 {
     words.compare_exchange::<Change>(seat, place, seen, next)
 }

@@ -7,7 +7,7 @@ use Rattle.sound_image.specs.Encoding.{chunk_record}
 use Rattle.sound_image.specs.Rules.{IsInData}
 use Rattle.group_ops.specs.Loading.{IsNoDamage, ShowChunks}
 use Rattle.group_ops.specs.Represents.{IsGroupOf}
-use Rattle.group_ops.specs.Values.{GroupValue}
+use Rattle.group_ops.specs.Values.{StateValue}
 use Rattle.group_ops.proofs.Inodes.{in_data}
 use Rattle.group_ops.proofs.Loaded.{chunks_ascend, loaded, root_is}
 use Rattle.group_ops.proofs.Outcomes.{passed_up}
@@ -59,7 +59,7 @@ returns-clause-represents g c known t layouts rest can image =
     let free = c.in_ok-free.ensures.map known t layouts rest can (laws.image_stays v c.load_leaf.new.view second ∙ image) in
     let starts = c.in_ok-chunks.ensures.starts ∙ ap (λ (l : List ChunkRec). map (λ (r : ChunkRec). r.start) l) c.chunks.ensures.all in
     let shown = subst (λ (l : List Sector). ShowChunks a.g.now l a.group c.in_ok-chunks.chunks.items) (laws.image_stays v c.load_map.new.view third ∙ image) (c.in_ok-chunks.ensures.shown known) in
-    subst (λ (s : GroupValue). IsGroupOf s t layouts) (sym c.of.ensures.parts)
+    subst (λ (s : StateValue). IsGroupOf s t layouts) (sym c.of.ensures.parts)
     (loaded c.encoded_places.ensures.inode a.g.now t layouts rest a.group c.in_ok-header.header c.in_ok-leaf.leaf c.in_ok-free.free c.in_ok-chunks.chunks.items c.of.result.cache can
     c.requires.inside header records free starts c.in_ok-chunks.ensures.whole shown c.of.ensures.nothing_in_core)
 
