@@ -1,4 +1,3 @@
-pub mod FileDisk
 pub mod Form
 pub mod Input
 pub mod Making

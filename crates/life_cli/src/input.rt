@@ -86,28 +86,3 @@ pub(crate) fn read_script<S: Source>(alloc: Global, source: &mut S) -> Result<Ve
     }
     Err(ReadFault::ScriptTooLong)
 }
-
-#[cfg(test)]
-mod tests {
-    use super::*;
-    use life_ports::MemorySource;
-    use std::test::Fail;
-
-    #[test]
-    fn a_script_is_taken_whole_or_a_fault_is_answered(rt: HostRuntime) -> Result<(), Fail> {
-        let alloc = rt.alloc();
-        for (length, fails, want) in [
-            (0, 9, Ok(0)),
-            (10_000, 9, Ok(10_000)),
-            (10_000, 3, Err(ReadFault::SourceFault)),
-            (MAX_SCRIPT_BYTES, 9_999, Ok(MAX_SCRIPT_BYTES)),
-            (MAX_SCRIPT_BYTES + 1, 9_999, Err(ReadFault::ScriptTooLong)),
-        ] {
-            let bytes = vec![in alloc; b'#'; length]?;
-            let mut source = MemorySource::new(bytes, vec![in alloc; fails]?);
-            let answer = read_script(alloc, &mut source).map(|script| script.len());
-            assert_eq!(rt; answer, want, "at {length}");
-        }
-        Ok(())
-    }
-}

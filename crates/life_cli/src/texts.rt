@@ -94,7 +94,7 @@ fn push_status(text: &mut String, ended: &Status) -> Result<(), AllocError>
 }
 
 /// What is written of a run of a script that ended so.
-pub(crate) fn print(
+pub fn print(
     alloc: Global,
     mounts: &[MountRecord],
     said: &[Said],
@@ -111,7 +111,7 @@ pub(crate) fn print(
 }
 
 /// What is written of the making of an image of so many sectors that ended so.
-pub(crate) fn print_made(alloc: Global, sectors: u64, ended: &Status) -> Result<String, NoMemory>
+pub fn print_made(alloc: Global, sectors: u64, ended: &Status) -> Result<String, NoMemory>
     ensures { IfOk result (λ text. string_bytes text ≡ output_of (make_lines sectors) ended.now) }
 {
     let mut text = String::new(alloc);
@@ -130,7 +130,7 @@ pub(crate) fn no_memory_line() -> &'static str
 }
 
 /// The exit status of the program.
-pub(crate) fn exit_code(ended: &Status) -> u8
+pub fn exit_code(ended: &Status) -> u8
     ensures { result ≡ exit_status ended.now }
 {
     match ended {
@@ -144,132 +144,5 @@ pub(crate) fn exit_code(ended: &Status) -> u8
         Status::WriteFault => 10,
         Status::FlushFault => 11,
         Status::NoMemory => 13,
-    }
-}
-
-#[cfg(test)]
-mod tests {
-    use super::*;
-    use std::test::Fail;
-    use thin_run::{Call, Key};
-
-    const KEY: Key = Key {
-        number: 192,
-        generation: 1,
-    };
-
-    #[test]
-    fn each_answer_and_each_status_has_its_text(rt: HostRuntime) -> Result<(), Fail> {
-        let alloc = rt.alloc();
-        for (reply, want) in [
-            (
-                Reply::Made { key: KEY },
-                "ok 192.1\nnot mounted\nsource fault\n",
-            ),
-            (Reply::NoInodes, "no inodes\nnot mounted\nsource fault\n"),
-            (
-                Reply::Covered { changes: 2 },
-                "ok 2\nnot mounted\nsource fault\n",
-            ),
-            (
-                Reply::WriteFault,
-                "write fault\nnot mounted\nsource fault\n",
-            ),
-            (
-                Reply::FlushFault,
-                "flush fault\nnot mounted\nsource fault\n",
-            ),
-            (Reply::LogEnd, "log end\nnot mounted\nsource fault\n"),
-            (
-                Reply::Down { fault: 1 },
-                "down 1\nnot mounted\nsource fault\n",
-            ),
-        ] {
-            let call = Call::Sync;
-            let event = Event::Called { call, reply };
-            let record = MountRecord {
-                base: 1,
-                kept: 0,
-                freed: 0,
-                entries: vec![in alloc; Entry { actor: 0, event }]?,
-                froms: vec![in alloc; 0]?,
-                acknowledged: 0,
-            };
-            let said = [
-                Said::Of { mount: 0, entry: 0 },
-                Said::Line {
-                    actor: None,
-                    reply: LineReply::NotMounted,
-                },
-            ];
-            let text = print(alloc, &[record], &said, &Status::SourceFault)?;
-            assert_eq!(rt; text.as_str(), want);
-        }
-        Ok(())
-    }
-
-    #[test]
-    fn each_line_reply_has_its_text(rt: HostRuntime) -> Result<(), Fail> {
-        let alloc = rt.alloc();
-        for (reply, want) in [
-            (
-                LineReply::Mounted { kept: 1, freed: 0 },
-                "ok kept 1 freed 0\n",
-            ),
-            (
-                LineReply::Damaged {
-                    rule: 7,
-                    sector: 192,
-                },
-                "damaged rule 7 sector 192\n",
-            ),
-            (LineReply::ReadFault, "read fault\n"),
-            (LineReply::FlushFault, "flush fault\n"),
-            (LineReply::AlreadyMounted, "mounted\n"),
-            (LineReply::NotMounted, "not mounted\n"),
-        ] {
-            let said = [Said::Line { actor: None, reply }];
-            let text = print(alloc, &[], &said, &Status::Good)?;
-            assert_eq!(rt; text.as_str(), want);
-        }
-        Ok(())
-    }
-
-    #[test]
-    fn each_status_has_its_line_and_its_exit_status(rt: HostRuntime) -> Result<(), Fail> {
-        let alloc = rt.alloc();
-        for (ended, want, code) in [
-            (Status::Good, "", 0),
-            (
-                Status::Usage,
-                "usage: life make, check, steps, load, live, drill\n",
-                2,
-            ),
-            (
-                Status::ScriptFault { line: 2, rule: 2 },
-                "script fault line 2 rule 2\n",
-                3,
-            ),
-            (Status::ScriptTooLong, "script too long\n", 4),
-            (Status::OpenFault, "open fault\n", 5),
-            (Status::SourceFault, "source fault\n", 6),
-            (Status::SinkFault, "", 7),
-            (Status::WriteFault, "write fault\n", 10),
-            (Status::FlushFault, "flush fault\n", 11),
-            (Status::NoMemory, "no memory\n", 13),
-        ] {
-            let text = print(alloc, &[], &[], &ended)?;
-            assert_eq!(rt; text.as_str(), want);
-            assert_eq!(rt; exit_code(&ended), code);
-        }
-        assert_eq!(rt; no_memory_line(), "no memory\n");
-        for (ended, want) in [
-            (Status::Good, "made 769 sectors\n"),
-            (Status::WriteFault, "write fault\n"),
-        ] {
-            let text = print_made(alloc, 769, &ended)?;
-            assert_eq!(rt; text.as_str(), want);
-        }
-        Ok(())
     }
 }

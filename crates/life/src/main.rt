@@ -1,36 +1,16 @@
-//! The program `life`: it makes images, and runs scripts over them.
-//!
-//! `life make IMAGE GROUPS BLOCKS RING` makes an image without a file. `life steps IMAGE` reads a script on standard input, runs its lines over the image, and
-//! writes a line for each.
+//! The program `life`: it hands the words of the command line, the files, standard input and standard output to `top`.
 #![tactic(auto)]
 
-mod ending;
-mod file_disk;
-mod form;
-mod input;
-mod making;
-mod output;
-mod script;
 mod standard;
-mod steps;
-#[cfg(test)]
-mod tests;
-mod texts;
-mod top;
 
-use file_disk::FileImages;
+use disk_file::FileImages;
+use life_cli::{Status, exit_code, top, write_whole};
 use life_ports::{ReaderSource, WriterSink};
-use output::write_whole;
 use standard::hold_standard;
 use std::alloc::Global;
 use std::env::Args;
 use std::process::ExitCode;
 use std::{env, io};
-use texts::exit_code;
-pub use thin_run::{
-    Call, Command, Ended, Entry, Event, Key, LineReply, MountRecord, Reply, Said, Status,
-};
-use top::top;
 
 // The words of the command line behind the program's name. Where they can't be read as a whole there are none.
 fn words_of(alloc: Global, arguments: io::Result<Args<Global>>) -> Vec<String> {

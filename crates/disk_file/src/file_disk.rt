@@ -3,7 +3,7 @@
 ghost use Rattle.std.specs.Prelude.{◌≡◌, ◌<◌, ◌*◌, ◌^◌, ◌++◌, ◌∷◌, [], IfOk, OnOk, OnErr, string_bytes};
 ghost use Rattle.life_limits.specs.declared.TheConstants.{SECTOR_BYTES};
 ghost use Rattle.life_ports.specs.Faults.{NeverFalls, Rose};
-ghost use Rattle.life_cli.specs.FileDisk.{all_given};
+ghost use Rattle.disk_file.specs.FileDisk.{all_given};
 
 use disk_model::{Disk, Images};
 use life_bytes::Sector;
@@ -17,7 +17,7 @@ use std::rt::Files;
 
 /// A file as a disk of whole sectors. A last part of the file of less than a sector is left as it is.
 #[derive(Drop)]
-pub(crate) struct FileDisk {
+pub struct FileDisk {
     file: File,
     sectors: u64,
     faults: u64,
@@ -50,7 +50,7 @@ impl FileDisk {
 
 impl Disk for FileDisk {
     ghost use Rattle.std.specs.Prelude.{false, [], ◌≡◌, ⊤};
-    ghost use Rattle.life_cli.specs.FileDisk.{unknown};
+    ghost use Rattle.disk_file.specs.FileDisk.{unknown};
 
     ghost known = { false };
 
@@ -114,7 +114,7 @@ pub(crate) struct GivenFile {
 
 /// Disks that are the files at paths.
 #[derive(Drop)]
-pub(crate) struct FileImages<R> {
+pub struct FileImages<R> {
     files: R,
     alloc: Global,
     given: Vec<GivenFile>,
@@ -123,7 +123,7 @@ pub(crate) struct FileImages<R> {
 
 impl<R: Files<File = File> + Drop> FileImages<R> {
     /// Nothing was given yet.
-    pub(crate) fn new(alloc: Global, files: R) -> FileImages<R>
+    pub fn new(alloc: Global, files: R) -> FileImages<R>
         ensures given { all_given result.given.items ≡ [] }
         ensures faults { result.faults ≡ 0 }
     {
@@ -199,7 +199,7 @@ fn make(files: &impl Files<File = File>, path: &str, sectors: u64) -> io::Result
 
 impl<R: Files<File = File> + Drop> Images for FileImages<R> {
     ghost use Rattle.std.specs.Prelude.{None};
-    ghost use Rattle.life_cli.specs.FileDisk.{all_given};
+    ghost use Rattle.disk_file.specs.FileDisk.{all_given};
 
     type Disk = FileDisk;
 

@@ -8,7 +8,7 @@ use Rattle.life_cli.specs.Steps.{RunsSteps}
 use Rattle.life_cli.specs.Texts.{make_lines, run_lines}
 use Rattle.life_cli.proofs.Makings.{RunsMake-told, at_one, at_path, make_back, make_disk}
 use Rattle.life_cli.proofs.Stepping.{RunsSteps-told, steps_back, steps_disk, steps_usage}
-use Rattle.life_cli.proofs.top.top.Goals as goal
+use Rattle.life_cli.proofs.top_call.top.Goals as goal
 
 pub returns-in-Some-Steps-clause-steps : goal.returns-in-Some-Steps-clause-steps
 returns-in-Some-Steps-clause-steps g c path is =

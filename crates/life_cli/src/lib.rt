@@ -1,0 +1,21 @@
+//! The program `life` as a call, `top`: it makes images, and runs scripts over them.
+//!
+//! `make IMAGE GROUPS BLOCKS RING` makes an image without a file. `steps IMAGE` reads a script, runs its lines over the image, and writes a line for each.
+#![tactic(auto)]
+
+mod ending;
+mod form;
+mod input;
+mod making;
+mod output;
+mod script;
+mod steps;
+mod texts;
+mod top_call;
+
+pub use making::run_make;
+pub use output::write_whole;
+pub use steps::run_steps;
+pub use texts::{exit_code, print, print_made};
+pub use thin_run::{Ended, Status};
+pub use top_call::top;

@@ -1,0 +1,15 @@
+//! The tests of the program: whole runs over disks in memory, what a crash after them leaves, and the texts that are written.
+//!
+//! A crate with tests is proved twice. So these stand here, above the crates that they test, and call what is public.
+#![tactic(auto)]
+
+#[cfg(test)]
+mod crashes;
+#[cfg(test)]
+mod input;
+#[cfg(test)]
+mod output;
+#[cfg(test)]
+mod rows;
+#[cfg(test)]
+mod runs;
