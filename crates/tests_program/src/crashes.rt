@@ -71,9 +71,17 @@ fn runs_behind_make(rt: &impl Abort, alloc: Global, rows: &[(u64, u64, u64)]) ->
     for (choice, second, third) in rows {
         let first = torn_run(rt, alloc)?;
         let next = next_run(alloc, first.disk, *choice, script)?;
-        assert_eq!(rt; next.written.as_str(), made_text(alloc, *second)?.as_str(), "choice {choice}");
+        assert_eq!(rt;
+            next.written.as_str(),
+            made_text(alloc, *second)?.as_str(),
+            "choice {choice}"
+        );
         let last = next_run(alloc, next.disk, 0, script)?;
-        assert_eq!(rt; last.written.as_str(), made_text(alloc, *third)?.as_str(), "choice {choice}");
+        assert_eq!(rt;
+            last.written.as_str(),
+            made_text(alloc, *third)?.as_str(),
+            "choice {choice}"
+        );
     }
     Ok(())
 }
