@@ -1,15 +1,13 @@
 -- A call that begins leaves a world that meets the invariant.
-use Rattle.std.proofs.Common.{◌≡◌, ◌≢◌, ◌<◌, ◌≤◌, ◌+◌, ◌/◌, ◌⊎◌, inl, inr, ℕ, zero, suc, Bool, true, false, List, [], ◌∷◌, ◌++◌, Option, None, Some, IsSomeAnd, length, slice_get, slice_index_or, slice_set, take, refl, sym, ap, subst, ◌∙◌, arith}
+use Rattle.std.proofs.Common.{◌≡◌, ◌≢◌, ◌<◌, ◌≤◌, ◌+◌, ◌/◌, inl, inr, ℕ, zero, suc, true, false, List, [], ◌∷◌, ◌++◌, Option, None, Some, IsSomeAnd, length, slice_index_or, slice_set, refl, sym, ap, subst, ◌∙◌, arith}
 use Rattle.std.specs.Prelude.{◌↔◌}
 use Rattle.std.specs.List.{AllByRecursion, Contains}
 use Rattle.std.proofs.lemmas.List.Elements.{All-nil}
-use Rattle.std.proofs.lemmas.Option.{none-some, same_Some, slice_get_within}
-use Rattle.std.proofs.lemmas.Bool.{cases_eq, false≢true, true≢false}
+use Rattle.std.proofs.lemmas.Option.{none-some, slice_get_within}
+use Rattle.std.proofs.lemmas.Bool.{cases_eq, true≢false}
 use Rattle.life_limits.specs.declared.TheConstants.{GROUP_NUMBERS}
 use Rattle.log_store.specs.declared.store.Job.{Job}
-use Rattle.log_store.specs.declared.store.Job.TheVariants as job
 use Rattle.log_store.specs.State.{State, state_of}
-use Rattle.log_store.specs.Outcome.{down_count}
 use Rattle.life_table.specs.declared.key.Key.{Key}
 use Rattle.life_table.specs.declared.types.Row.{Row}
 use Rattle.life_table.specs.declared.types.Call.{Call}
@@ -18,7 +16,6 @@ use Rattle.life_table.specs.declared.types.Reply.{Reply}
 use Rattle.life_table.specs.declared.table.Table.{Table}
 use Rattle.life_table.specs.Table.{group_number, inode_of, row_of}
 use Rattle.life_table.specs.History.{IsHeld, key_of}
-use Rattle.actor_world.specs.declared.memory.Place.{Place}
 use Rattle.actor_world.specs.declared.memory.Place.TheVariants as place
 use Rattle.actor_world.specs.declared.memory.Doing.{Doing}
 use Rattle.actor_world.specs.declared.memory.Actor.{Actor}
@@ -28,8 +25,8 @@ use Rattle.actor_world.specs.Moves.{first_place, group_of_call, lies_in_group, l
 use Rattle.actor_world.specs.World.{GroupExists, History, IsBegun, World, beginning}
 use Rattle.actor_world.specs.Steps.{Telling}
 use Rattle.actor_world.specs.Words.{Due, DueHolds, due_at, due_number, install, kill, mark, nothing}
-use Rattle.actor_world.specs.Licence.{BelongsTo, Interval, IsAnsweredAt, Licensed, MayFree, Unfinished, queue_at}
-use Rattle.actor_world.specs.Invariant.{ActorIsRight, CallIsRight, DoingIsRight, FreesAreRight, GroupIsThere, HasEntry, Invariant, IsShaped, JobIsRight, JobOfDoing, JobOfHolder, LiesInGroup, LiesInLog, PlaceKeeps, QueueIsRight, WordIsRight, due_in, due_of_actor, due_of_doing, due_of_holder, first_key, is_gc, is_gc_call, key_made, reply_at, unanswered, unfinished_from, unfinished_of}
+use Rattle.actor_world.specs.Licence.{BelongsTo, Interval, Licensed, Unfinished, queue_at}
+use Rattle.actor_world.specs.Invariant.{ActorIsRight, DoingIsRight, FreesAreRight, GroupIsThere, HasEntry, Invariant, JobOfDoing, JobOfHolder, LiesInGroup, LiesInLog, PlaceKeeps, QueueIsRight, WordIsRight, due_of_actor, due_of_doing, due_of_holder, first_key, is_gc, is_gc_call, key_made, reply_at, unanswered, unfinished_from, unfinished_of}
 use Rattle.actor_world.proofs.Geometry.{is_placed}
 use Rattle.actor_world.proofs.Lists.{read_other, read_same, set-length, the_some}
 use Rattle.actor_world.proofs.LiveWords.{has_inode}

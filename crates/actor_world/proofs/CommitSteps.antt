@@ -1,7 +1,6 @@
 -- After a step the commits that wait tell the changes that are not durable, one each, in order.
-use Rattle.std.proofs.Common.{◌≡◌, ◌<◌, ◌≤◌, ◌+◌, ◌-◌, ℕ, Bool, true, false, List, [], ◌∷◌, ◌++◌, append-nil, append_assoc, length-append, Option, None, Some, drop, take, length, refl, sym, ap, subst, ◌∙◌, arith}
+use Rattle.std.proofs.Common.{◌≡◌, ◌≤◌, ◌+◌, ◌-◌, ℕ, Bool, true, false, List, [], ◌∷◌, ◌++◌, append-nil, append_assoc, length-append, Option, None, Some, take, length, refl, sym, ap, subst, ◌∙◌, arith}
 use Rattle.std.proofs.lemmas.List.{take-append-drop, length-take-le}
-use Rattle.std.proofs.lemmas.Bool.{false≢true, true≢false}
 use Rattle.log_record.specs.declared.image.Commit.{Commit}
 use Rattle.log_store.specs.declared.store.Store.{Store}
 use Rattle.log_store.specs.State.{State, state_of}
@@ -20,8 +19,8 @@ use Rattle.actor_world.specs.Caches.{actor_at}
 use Rattle.actor_world.specs.Moves.{lies_in_log}
 use Rattle.actor_world.specs.World.{History, World, told, told_if}
 use Rattle.actor_world.specs.Steps.{DiskFace, HomeStep, IsAdvanced, IsGroupStep, Pushes, Step, StepOf, SyncStep, Telling, answered, makes_change}
-use Rattle.actor_world.specs.Invariant.{CommitOf, CommitsAreRight, CommitsOf, Invariant, JobAt, JobIsRight, JobOfDoing, JobOfHolder, TakenFits, beginning_of, durable_changes}
-use Rattle.actor_world.proofs.LogLock.{LockIsRight, has_lock}
+use Rattle.actor_world.specs.Invariant.{CommitOf, CommitsAreRight, CommitsOf, Invariant, JobAt, JobOfDoing, JobOfHolder, TakenFits, beginning_of}
+use Rattle.actor_world.proofs.LogLock.{has_lock}
 use Rattle.actor_world.proofs.StoreMoves.{Kept, Landed, Moves, step_moves}
 
 -- ---- the history as its entries tell it

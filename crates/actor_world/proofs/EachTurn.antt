@@ -1,5 +1,5 @@
 -- Each move of a call is one of the turns.
-use Rattle.std.proofs.Common.{◌≡◌, ◌<◌, ◌≤◌, ◌/◌, inl, inr, ℕ, Bool, true, false, List, [], ◌∷◌, Option, None, Some, IfSome, IsSome, IsSomeAnd, is_some, if◌then◌else◌, length, slice_index_or, refl, sym, ap, subst, ◌∙◌}
+use Rattle.std.proofs.Common.{◌≡◌, ◌<◌, ◌/◌, inl, inr, ℕ, true, List, ◌∷◌, Option, None, Some, IfSome, is_some, if◌then◌else◌, length, refl, sym, ap, subst, ◌∙◌}
 use Rattle.std.proofs.lemmas.Option.{none-some, same_Some}
 use Rattle.std.proofs.lemmas.Bool.{cases_lt, false≢true}
 use Rattle.life_limits.specs.declared.TheConstants.{GROUP_NUMBERS}
@@ -8,30 +8,27 @@ use Rattle.life_table.specs.declared.types.Row.{Row}
 use Rattle.life_table.specs.declared.types.Call.{Call}
 use Rattle.life_table.specs.declared.types.Call.TheVariants as call
 use Rattle.life_table.specs.declared.types.Reply.{Reply}
-use Rattle.life_table.specs.declared.types.Reply.TheVariants as reply
 use Rattle.life_table.specs.declared.table.Table.{Table}
 use Rattle.life_table.specs.Table.{group_at, group_number, row_of}
 use Rattle.life_table.specs.Space.{lowest_key, prepared}
-use Rattle.life_table.specs.Legal.{Awaits, CanMake, IsOpen, Permits}
+use Rattle.life_table.specs.Legal.{IsOpen, Permits}
 use Rattle.life_table.specs.Replies.{create_reply, reply_of}
-use Rattle.life_table.specs.History.{IsHeld, key_of}
+use Rattle.life_table.specs.History.{IsHeld}
 use Rattle.actor_world.specs.declared.memory.Place.{Place}
 use Rattle.actor_world.specs.declared.memory.Place.TheVariants as place
 use Rattle.actor_world.specs.declared.memory.Doing.{Doing}
 use Rattle.actor_world.specs.declared.memory.Actor.{Actor}
-use Rattle.actor_world.specs.declared.memory.GroupCache.{GroupCache}
 use Rattle.actor_world.specs.declared.memory.Memory.{Memory}
-use Rattle.actor_world.specs.Caches.{actor_at, cache_at, cached_word, idle_actor, no_cache}
-use Rattle.actor_world.specs.Moves.{Move, answer_create, call_move, change_move, close_move, create_move, doing_move, flush_move, gc_move, group_holder, group_of_call, grow_move, lies_in_group, move_of, open_move, reclaim_move, room_move, stat_move, stands_at, takes_group, waits_in_group}
+use Rattle.actor_world.specs.Caches.{actor_at, cached_word, idle_actor}
+use Rattle.actor_world.specs.Moves.{Move, answer_create, call_move, change_move, close_move, create_move, doing_move, gc_move, group_holder, group_of_call, grow_move, lies_in_group, move_of, open_move, stat_move, stands_at, takes_group, waits_in_group}
 use Rattle.actor_world.specs.World.{History}
-use Rattle.actor_world.specs.Words.{DueHolds, KillDue, MarkDue, WordSays, due_at, nothing}
-use Rattle.actor_world.specs.Invariant.{ActorIsRight, CallIsRight, DoingIsRight, LiesInGroup, MayBeFreed, PlaceKeeps, due_of_actor, first_key}
+use Rattle.actor_world.specs.Words.{DueHolds, MarkDue, WordSays, due_at, nothing}
+use Rattle.actor_world.specs.Invariant.{CallIsRight, DoingIsRight, LiesInGroup, PlaceKeeps, due_of_actor, first_key}
 use Rattle.actor_world.proofs.HouseTurns.{HeadFacts, flush_turn, gc_turn, reclaim_turn}
 use Rattle.actor_world.proofs.Lists.{read_past}
 use Rattle.actor_world.proofs.LiveWords.{right_under}
 use Rattle.actor_world.proofs.OpenTurns.{find_turn, first_turn, install_turn, look_turn, pin_locked_turn, pin_turn, read_turn, the_row, unpin_turn}
 use Rattle.actor_world.proofs.RoomTurns.{RoomFacts, change_turn, create_answer, grow_answer, install_made_turn, mark_turn, room_turn}
-use Rattle.actor_world.proofs.Slots.{cache_past}
 use Rattle.actor_world.proofs.Turns.{CanLock, HeldWord, Turned, changer_key, leaves, locks_change, maker_group, room_group}
 use Rattle.actor_world.proofs.TurnsFound.{Laws, dead_row, ends, goes}
 use Rattle.actor_world.proofs.Within.{Within}

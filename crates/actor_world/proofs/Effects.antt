@@ -1,30 +1,24 @@
 -- What a turn does to the caches and their locks.
-use Rattle.std.proofs.Common.{◌≡◌, ◌≢◌, ◌<◌, ◌≤◌, ◌+◌, ◌*◌, ◌/◌, ◌%◌, ◌⊎◌, inl, inr, ℕ, zero, suc, Bool, true, false, List, [], ◌∷◌, Option, None, Some, IsSomeAnd, if◌then◌else◌, length, map, slice_index_or, slice_set, refl, sym, ap, subst, ◌∙◌, arith}
+use Rattle.std.proofs.Common.{◌≡◌, ◌/◌, ◌%◌, ◌⊎◌, inl, inr, ℕ, zero, suc, Bool, true, false, List, [], ◌∷◌, Option, None, Some, length, map, slice_index_or, slice_set, refl, sym, ap, subst, ◌∙◌, arith}
 use Rattle.std.proofs.lemmas.List.{length-map}
-use Rattle.std.specs.Prelude.{◌↔◌}
 use Rattle.std.specs.List.{AllByRecursion}
-use Rattle.std.proofs.lemmas.Option.{none-some, same_Some}
-use Rattle.std.proofs.lemmas.Bool.{cases_eq, cases_lt, false≢true, true≢false}
-use Rattle.life_limits.specs.declared.TheConstants.{BLOCK_SECTORS, GROUP_NUMBERS}
+use Rattle.std.proofs.lemmas.Bool.{cases_eq, cases_lt, false≢true}
+use Rattle.life_limits.specs.declared.TheConstants.{GROUP_NUMBERS}
 use Rattle.life_table.specs.declared.key.Key.{Key}
 use Rattle.life_table.specs.declared.types.Call.{Call}
-use Rattle.life_table.specs.declared.types.Call.TheVariants as call
-use Rattle.life_table.specs.declared.types.Reply.{Reply}
 use Rattle.life_table.specs.declared.types.Event.{Event}
 use Rattle.life_table.specs.declared.table.Table.{Table}
 use Rattle.life_table.specs.Table.{group_number}
-use Rattle.slot_words.specs.declared.word.Word.{Word}
 use Rattle.actor_world.specs.declared.memory.Place.{Place}
-use Rattle.actor_world.specs.declared.memory.Place.TheVariants as place
 use Rattle.actor_world.specs.declared.memory.Residence.{Residence}
 use Rattle.actor_world.specs.declared.memory.Residence.TheVariants.{Absent, Clean, Dirty}
 use Rattle.actor_world.specs.declared.memory.Slot.{Slot}
 use Rattle.actor_world.specs.declared.memory.GroupCache.{GroupCache}
 use Rattle.actor_world.specs.declared.memory.Memory.{Memory}
-use Rattle.actor_world.specs.Caches.{brought, cache_at, cached_word, copied, copied_slot, copy_all, first_slot, locked, no_cache, slot_at, unlocked, with_cache, with_slot}
-use Rattle.actor_world.proofs.Lists.{all_set, read_other, read_past, read_same, set-length}
-use Rattle.actor_world.proofs.Slots.{cache_other, cache_past, cache_same, same_number, slot_other, slot_same, slots_set, with_cache_past}
-use Rattle.actor_world.proofs.Turns.{CanLock, HasSlot, Turn, changes, copies, ends_flush, ends_reclaim, finds_none, finds_row, frees_head, frees_one, grows, installs, installs_made, kills, kills_head, leaves, locks_change, locks_flush, locks_reclaim, locks_short, makes, marks, next_none, next_row, passes, passes_last, pins, pins_locked, reads, retires, unpins}
+use Rattle.actor_world.specs.Caches.{brought, cache_at, copied, copied_slot, copy_all, first_slot, locked, no_cache, slot_at, unlocked, with_cache, with_slot}
+use Rattle.actor_world.proofs.Lists.{all_set, read_past, set-length}
+use Rattle.actor_world.proofs.Slots.{cache_other, cache_same, slot_other, slot_same, slots_set, with_cache_past}
+use Rattle.actor_world.proofs.Turns.{CanLock, Turn, changes, copies, ends_flush, ends_reclaim, finds_none, finds_row, frees_head, frees_one, grows, installs, installs_made, kills, kills_head, leaves, locks_change, locks_flush, locks_reclaim, locks_short, makes, marks, next_none, next_row, passes, passes_last, pins, pins_locked, reads, retires, unpins}
 
 -- no live word is without an inode in core
 abbrev pub IsCore : Slot → Type 0

@@ -1,7 +1,7 @@
 -- After a step each call in progress has its entry as its place says; and a call that ended has one, with its reply.
-use Rattle.std.proofs.Common.{◌≡◌, ◌≢◌, ◌<◌, ◌≤◌, ◌+◌, ◌==◌, ◌⊎◌, inl, inr, ℕ, Bool, true, false, List, [], ◌∷◌, ◌++◌, Option, None, Some, if◌then◌else◌, length, slice_get, refl, sym, ap, subst, ◌∙◌, arith}
-use Rattle.std.proofs.lemmas.Option.{none-some, same_Some, slice_get_within}
-use Rattle.std.proofs.lemmas.Bool.{cases_eq, false≢true, true≢false}
+use Rattle.std.proofs.Common.{◌≡◌, ◌≢◌, ◌<◌, inl, inr, ℕ, true, false, List, [], ◌∷◌, ◌++◌, Option, None, Some, if◌then◌else◌, length, slice_get, refl, sym, ap, subst, ◌∙◌, arith}
+use Rattle.std.proofs.lemmas.Option.{none-some, same_Some}
+use Rattle.std.proofs.lemmas.Bool.{cases_eq, false≢true}
 use Rattle.life_table.specs.declared.key.Key.{Key}
 use Rattle.life_table.specs.declared.types.Call.{Call}
 use Rattle.life_table.specs.declared.types.Call.TheVariants as call
@@ -18,15 +18,15 @@ use Rattle.actor_world.specs.declared.memory.Actor.{Actor}
 use Rattle.actor_world.specs.declared.memory.Memory.{Memory}
 use Rattle.actor_world.specs.Caches.{actor_at, idle_actor, with_actor}
 use Rattle.actor_world.specs.Moves.{is_mark_due, place_after_change, stands_at, with_inodes, with_rows_to_free, is_log_call}
-use Rattle.actor_world.specs.World.{History, World, told, told_if}
+use Rattle.actor_world.specs.World.{History, World, told_if}
 use Rattle.actor_world.specs.Steps.{DiskFace, Step, Telling}
-use Rattle.actor_world.specs.Invariant.{CallIsRight, HasEntry, reply_at}
+use Rattle.actor_world.specs.Invariant.{HasEntry, reply_at}
 use Rattle.actor_world.proofs.Effects.{effect_actors, effect_of}
 use Rattle.actor_world.proofs.Lists.{get_kept, get_last, get_push, read_other, read_same}
 use Rattle.actor_world.proofs.StepTurns.{TurnOf, call_of, stepped, turn_from}
 use Rattle.actor_world.proofs.TurnsFound.{Laws}
 use Rattle.actor_world.proofs.Within.{Within}
-use Rattle.actor_world.proofs.Turns.{Turn, after_turn, changes, copies, ends_flush, ends_reclaim, finds_none, finds_row, frees_head, frees_one, goes_on, grow_refuses, grows, installs, installs_made, is_answered, kills, kills_head, leaves, load_crowded, load_finds, load_pins, load_stale, locked_crowded, locked_installs, locked_pins, locked_stale, locks_change, locks_flush, locks_reclaim, locks_short, makes, makes_none, marks, next_empty, next_none, next_row, passes, passes_last, pin_misses, pin_misses_locked, pins, pins_locked, reads, refuses, retires, retires_none, unpins}
+use Rattle.actor_world.proofs.Turns.{Turn, after_turn, changes, ends_flush, ends_reclaim, finds_none, frees_head, frees_one, goes_on, grow_refuses, grows, installs, is_answered, kills, leaves, load_crowded, load_stale, locked_crowded, locked_stale, locks_reclaim, locks_short, makes, makes_none, next_empty, passes_last, pins, pins_locked, reads, refuses, retires, retires_none, unpins}
 
 -- ---- what a turn does to the reply of a call
 

@@ -1,5 +1,5 @@
 -- The word of a key that is held is live, and its pins are the holds.
-use Rattle.std.proofs.Common.{◌≡◌, ◌≢◌, ◌<◌, ◌≤◌, ◌/◌, inl, inr, ℕ, true, false, List, Option, None, Some, IfSome, IsSomeAnd, refl, sym, ap, subst, ◌∙◌, arith}
+use Rattle.std.proofs.Common.{◌≡◌, ◌≢◌, ◌<◌, ◌≤◌, ◌/◌, inl, inr, ℕ, true, false, List, Option, None, Some, IfSome, refl, sym, ap, subst, ◌∙◌, arith}
 use Rattle.std.proofs.lemmas.Option.{none-some, same_Some}
 use Rattle.std.proofs.lemmas.Bool.{cases_Bool, cases_eq, true≢false}
 use Rattle.life_limits.specs.declared.TheConstants.{GROUP_NUMBERS}
@@ -10,19 +10,17 @@ use Rattle.life_table.specs.declared.types.Call.TheVariants as call
 use Rattle.life_table.specs.declared.table.Table.{Table}
 use Rattle.life_table.specs.Table.{inode_of, row_of}
 use Rattle.life_table.specs.History.{IsHeld, holds}
-use Rattle.slot_words.specs.declared.word.Word.{Word}
 use Rattle.actor_world.specs.declared.memory.Place.{Place}
 use Rattle.actor_world.specs.declared.memory.Place.TheVariants as place
 use Rattle.actor_world.specs.declared.memory.Doing.{Doing}
-use Rattle.actor_world.specs.declared.memory.Actor.{Actor}
 use Rattle.actor_world.specs.declared.memory.Memory.{Memory}
 use Rattle.actor_world.specs.Caches.{actor_at, cache_at, cached_word}
 use Rattle.actor_world.specs.World.{History}
-use Rattle.actor_world.specs.Words.{DeadSays, Due, DueHolds, WordSays, any_row, due_at, due_number, install, kill, mark, nothing, says}
-use Rattle.actor_world.specs.Invariant.{ActorIsRight, CallIsRight, DoingIsRight, due_of_actor, due_of_doing, due_of_holder, first_key, key_made}
+use Rattle.actor_world.specs.Words.{DeadSays, DueHolds, any_row, due_at, due_number, nothing, says}
+use Rattle.actor_world.specs.Invariant.{DoingIsRight, due_of_actor, due_of_doing, due_of_holder, first_key, key_made}
 use Rattle.actor_world.proofs.Holding.{two_hold}
 use Rattle.actor_world.proofs.Lists.{the_some}
-use Rattle.actor_world.proofs.LiveWords.{KillIsDue, LiveIs, MarkIsDue, Right, any_row_is, life_of, live_is, one_life}
+use Rattle.actor_world.proofs.LiveWords.{KillIsDue, LiveIs, MarkIsDue, Right, any_row_is, live_is, one_life}
 use Rattle.actor_world.proofs.Turns.{HeldWord}
 use Rattle.actor_world.proofs.TurnsFound.{Laws}
 use Rattle.actor_world.proofs.Within.{Within}

@@ -1,21 +1,20 @@
 -- Histories with one entry more: that they are legal, and who holds what.
-use Rattle.std.proofs.Common.{◌≡◌, ◌≢◌, ◌<◌, ◌≤◌, ◌+◌, ◌-◌, ◌==◌, ◌&&◌, inl, inr, ℕ, Bool, true, false, List, [], ◌∷◌, ◌++◌, append-nil, append_assoc, Option, None, Some, IsSomeAnd, if◌then◌else◌, length, refl, sym, ap, subst, ◌∙◌, arith}
+use Rattle.std.proofs.Common.{◌≡◌, ◌≢◌, ◌<◌, ◌≤◌, ◌+◌, ◌-◌, ◌==◌, ◌&&◌, ℕ, Bool, false, List, [], ◌∷◌, ◌++◌, append-nil, append_assoc, Option, None, Some, if◌then◌else◌, refl, sym, ap, subst, ◌∙◌, arith}
 use Rattle.std.specs.List.{count_by}
-use Rattle.std.proofs.lemmas.Bool.{cases_eq, eqb-true, ne_eqb}
+use Rattle.std.proofs.lemmas.Bool.{ne_eqb}
 use Rattle.std.proofs.lemmas.List.Sums.{sum_by-append}
 use Rattle.life_table.specs.declared.key.Key.{Key}
 use Rattle.life_table.specs.declared.types.Row.{Row}
 use Rattle.life_table.specs.declared.types.Call.TheVariants as call
 use Rattle.life_table.specs.declared.types.Reply.TheVariants as reply
-use Rattle.life_table.specs.declared.types.Event.{Event}
 use Rattle.life_table.specs.declared.types.Event.TheVariants.{Called}
 use Rattle.life_table.specs.declared.types.Entry.{Entry}
 use Rattle.life_table.specs.declared.table.Table.{Table}
-use Rattle.life_table.specs.Table.{row_of, with_row}
+use Rattle.life_table.specs.Table.{row_of}
 use Rattle.life_table.specs.Legal.{IsOpen, KeyReplies, row_after, with_changed}
-use Rattle.life_table.specs.History.{AreByHolders, Happens, IsByHolder, IsHeld, Leads, LegalHistory, after_event, gives_up, holds, takes_hold}
+use Rattle.life_table.specs.History.{AreByHolders, Happens, IsByHolder, IsHeld, Leads, LegalHistory, gives_up, holds, takes_hold}
 use Rattle.life_table.specs.WellFormed.{IsTable}
-use Rattle.actor_world.proofs.Lists.{is_some_and, the_some}
+use Rattle.actor_world.proofs.Lists.{the_some}
 use Rattle.actor_world.proofs.Looks.{row_same}
 use Rattle.actor_world.proofs.TurnsFound.{Laws}
 

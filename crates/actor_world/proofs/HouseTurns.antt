@@ -1,32 +1,31 @@
 -- The turns of gcs, flushes and reclaims.
-use Rattle.std.proofs.Common.{◌≡◌, ◌<◌, ℕ, Bool, true, false, List, [], ◌∷◌, Option, None, Some, IfSome, IsSomeAnd, if◌then◌else◌, length, refl, sym, ap, subst, ◌∙◌}
+use Rattle.std.proofs.Common.{◌≡◌, ◌<◌, ℕ, true, false, List, [], ◌∷◌, Option, None, Some, IfSome, IsSomeAnd, if◌then◌else◌, length, refl, sym, ap, subst, ◌∙◌}
 use Rattle.std.proofs.lemmas.Bool.{and_parts}
 use Rattle.life_table.specs.declared.key.Key.{Key}
 use Rattle.life_table.specs.declared.types.Row.{Row}
 use Rattle.life_table.specs.declared.types.Call.TheVariants as call
 use Rattle.life_table.specs.declared.types.Reply.TheVariants as reply
-use Rattle.life_table.specs.declared.types.Event.{Event}
 use Rattle.life_table.specs.declared.types.Event.TheVariants.{Called}
 use Rattle.life_table.specs.declared.table.Table.{Table}
 use Rattle.life_table.specs.Table.{group_number, row_of}
 use Rattle.life_table.specs.Legal.{Awaits}
 use Rattle.slot_words.specs.declared.word.Word.{Word}
-use Rattle.slot_words.specs.Steps.{after_kill, after_retire, is_idle}
+use Rattle.slot_words.specs.Steps.{after_retire, is_idle}
 use Rattle.actor_world.specs.declared.memory.Place.{Place}
 use Rattle.actor_world.specs.declared.memory.Place.TheVariants as place
 use Rattle.actor_world.specs.declared.memory.Residence.TheVariants.{Absent}
 use Rattle.actor_world.specs.declared.memory.Doing.{Doing}
 use Rattle.actor_world.specs.declared.memory.Actor.{Actor}
 use Rattle.actor_world.specs.declared.memory.Memory.{Memory}
-use Rattle.actor_world.specs.Caches.{actor_at, cached_word, ended, idle_actor, locked, moved_to, put_word, slot_at, unlocked, with_actor, with_queue}
-use Rattle.actor_world.specs.Moves.{answers, end_house, flush_move, gc_move, head_move, head_place, passed, reclaim_move, retired, silent, with_inodes}
+use Rattle.actor_world.specs.Caches.{actor_at, cached_word, idle_actor, locked, moved_to, put_word, unlocked, with_actor, with_queue}
+use Rattle.actor_world.specs.Moves.{flush_move, gc_move, head_move, head_place, passed, reclaim_move, retired, silent, with_inodes}
 use Rattle.actor_world.specs.Words.{KillDue}
 use Rattle.actor_world.proofs.Lists.{read_same, set_twice}
 use Rattle.actor_world.proofs.OpenTurns.{queue_and_end}
 use Rattle.actor_world.proofs.RoomTurns.{kill_awaits}
-use Rattle.actor_world.proofs.Sights.{killed_word, retired_word}
+use Rattle.actor_world.proofs.Sights.{killed_word}
 use Rattle.actor_world.proofs.Slots.{inode_over_word, live_has_slot}
-use Rattle.actor_world.proofs.Turns.{CanLock, Turn, Turned, copies, ends_flush, ends_reclaim, frees_head, kills_head, locks_flush, locks_reclaim, next_empty, next_none, next_row, passes, passes_last, retires, retires_none}
+use Rattle.actor_world.proofs.Turns.{CanLock, Turned, copies, ends_flush, ends_reclaim, frees_head, kills_head, locks_flush, locks_reclaim, next_empty, next_none, next_row, passes, passes_last, retires, retires_none}
 use Rattle.actor_world.proofs.TurnsFound.{ends, goes}
 
 -- ---- gc

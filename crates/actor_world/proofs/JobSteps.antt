@@ -1,8 +1,8 @@
 -- After a step the store has a job exactly where the holder of its lock is at one, and no sync was answered too much.
-use Rattle.std.proofs.Common.{◌≡◌, ◌≢◌, ◌<◌, ◌≤◌, ◌+◌, ◌-◌, ◌⊎◌, inl, inr, ℕ, zero, suc, Bool, true, false, cond, List, [], ◌∷◌, ◌++◌, length-append, Option, None, Some, IsSomeAnd, Result, Ok, Err, take, length, slice_get, refl, sym, ap, subst, ◌∙◌, arith}
+use Rattle.std.proofs.Common.{◌≡◌, ◌<◌, ◌≤◌, ◌+◌, inl, inr, ℕ, zero, suc, Bool, true, false, cond, List, [], ◌∷◌, ◌++◌, length-append, Option, None, Some, IsSomeAnd, Result, Ok, Err, take, length, slice_get, refl, sym, ap, subst, ◌∙◌, arith}
 use Rattle.std.proofs.lemmas.List.{take-append-le, length-drop}
 use Rattle.std.proofs.lemmas.Option.{none-some, same_Some}
-use Rattle.std.proofs.lemmas.Bool.{cases_eq, false≢true, true≢false}
+use Rattle.std.proofs.lemmas.Bool.{cases_eq, true≢false}
 use Rattle.log_record.specs.declared.image.Commit.{Commit}
 use Rattle.log_record.specs.declared.image.Image.{Image}
 use Rattle.log_store.specs.declared.fault.Progress.{Progress}
@@ -23,7 +23,7 @@ use Rattle.life_table.specs.declared.types.Reply.{Reply}
 use Rattle.life_table.specs.declared.types.Reply.TheVariants as reply
 use Rattle.life_table.specs.declared.types.Row.{Row}
 use Rattle.life_table.specs.declared.types.Event.{Event}
-use Rattle.life_table.specs.declared.types.Event.TheVariants.{Called, Freed}
+use Rattle.life_table.specs.declared.types.Event.TheVariants.{Called}
 use Rattle.life_table.specs.declared.types.Entry.{Entry}
 use Rattle.life_table.specs.declared.table.Table.{Table}
 use Rattle.life_table.specs.Table.{row_of}
@@ -37,12 +37,11 @@ use Rattle.actor_world.specs.declared.memory.Memory.{Memory}
 use Rattle.actor_world.specs.Caches.{actor_at, idle_actor, with_actor}
 use Rattle.actor_world.specs.Moves.{lies_in_log, is_log_call}
 use Rattle.actor_world.specs.World.{History, World, told, told_if}
-use Rattle.actor_world.specs.Steps.{DiskFace, HomeStep, IsAdvanced, IsGroupStep, IsLogTurn, Step, StepOf, SyncStep, Telling, answered, begun_job, covered_answer, dirty_answer, end_answer, home_answer, or_down, pending_answer, progress_answer, take_answer, taken_all}
-use Rattle.actor_world.specs.Invariant.{CommitOf, CommitsOf, Invariant, IsAtRest, JobAt, JobIsRight, JobOfDoing, JobOfHolder, LiesInLog, TakenFits, beginning_of, durable_changes}
+use Rattle.actor_world.specs.Steps.{DiskFace, HomeStep, IsGroupStep, IsLogTurn, Step, StepOf, SyncStep, Telling, answered, begun_job, dirty_answer, home_answer, or_down, pending_answer, progress_answer, take_answer}
+use Rattle.actor_world.specs.Invariant.{CommitOf, CommitsOf, Invariant, IsAtRest, JobAt, JobIsRight, JobOfDoing, JobOfHolder, TakenFits, beginning_of, durable_changes}
 use Rattle.actor_world.proofs.CommitSteps.{job_fits}
 use Rattle.actor_world.proofs.EachTurn.{in_list}
 use Rattle.actor_world.proofs.Effects.{effect_actors, effect_of}
-use Rattle.actor_world.proofs.LegalSteps.{turn_happens}
 use Rattle.actor_world.proofs.Lists.{get_push, read_other, read_same}
 use Rattle.actor_world.proofs.LogLock.{has_lock, not_in_log}
 use Rattle.actor_world.proofs.StepTurns.{call_of, group_step}

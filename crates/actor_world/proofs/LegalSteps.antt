@@ -1,16 +1,7 @@
 -- A step leaves a legal history.
-use Rattle.std.proofs.Common.{◌≡◌, ◌<◌, ◌≤◌, ℕ, true, false, List, [], ◌∷◌, ◌++◌, Option, None, Some, IfSome, IsSomeAnd, Result, Ok, Err, refl, sym, ap, subst, ◌∙◌, arith}
-use Rattle.std.proofs.lemmas.Option.{none-some, same_Some}
+use Rattle.std.proofs.Common.{◌≡◌, ◌<◌, ◌≤◌, ℕ, List, Option, None, Some, refl, sym, subst, arith}
 use Rattle.std.proofs.lemmas.Bool.{false≢true}
 use Rattle.life_limits.specs.declared.TheConstants.{MAX_PINS}
-use Rattle.log_record.specs.declared.image.Commit.{Commit}
-use Rattle.log_record.specs.declared.image.Image.{Image}
-use Rattle.log_store.specs.declared.fault.Progress.{Progress}
-use Rattle.log_store.specs.declared.fault.Progress.TheVariants.{More, Ended}
-use Rattle.log_store.specs.declared.fault.StoreFault.{StoreFault}
-use Rattle.log_store.specs.declared.fault.StoreFault.TheVariants as faults
-use Rattle.log_store.specs.State.{State, state_of}
-use Rattle.log_store.specs.Outcome.{down_count}
 use Rattle.life_table.specs.declared.key.Key.{Key}
 use Rattle.life_table.specs.declared.types.Row.{Row}
 use Rattle.life_table.specs.declared.types.Call.{Call}
@@ -18,28 +9,17 @@ use Rattle.life_table.specs.declared.types.Call.TheVariants as call
 use Rattle.life_table.specs.declared.types.Reply.{Reply}
 use Rattle.life_table.specs.declared.types.Reply.TheVariants as reply
 use Rattle.life_table.specs.declared.types.Event.{Event}
-use Rattle.life_table.specs.declared.types.Event.TheVariants.{Called, Freed}
 use Rattle.life_table.specs.declared.types.Entry.{Entry}
 use Rattle.life_table.specs.declared.table.Table.{Table}
 use Rattle.life_table.specs.Table.{row_of}
-use Rattle.life_table.specs.Legal.{KeyReplies, Permits}
+use Rattle.life_table.specs.Legal.{KeyReplies}
 use Rattle.life_table.specs.History.{Happens, IsByHolder, IsHeld, LegalHistory, after_event, key_of}
 use Rattle.actor_world.specs.declared.memory.Place.{Place}
-use Rattle.actor_world.specs.declared.memory.Place.TheVariants as place
-use Rattle.actor_world.specs.declared.memory.Doing.{Doing}
 use Rattle.actor_world.specs.declared.memory.Memory.{Memory}
-use Rattle.actor_world.specs.Caches.{actor_at}
-use Rattle.actor_world.specs.Moves.{Move, move_of, stands_at}
-use Rattle.actor_world.specs.World.{History, World, told, told_if}
-use Rattle.actor_world.specs.Steps.{DiskFace, HomeStep, IsAdvanced, IsGroupStep, IsHomeBegun, IsTake, Step, StepOf, SyncStep, Telling, answered, dirty_answer, home_answer, or_down, pending_answer, progress_answer, take_answer}
-use Rattle.actor_world.specs.Words.{nothing, due_at}
-use Rattle.actor_world.specs.Invariant.{CallIsRight, DoingIsRight, Invariant, due_of_actor, due_of_doing, first_key}
-use Rattle.actor_world.proofs.EachTurn.{turn_of}
-use Rattle.actor_world.proofs.HeldWords.{held_word}
+use Rattle.actor_world.specs.World.{History, told_if}
 use Rattle.actor_world.proofs.Holding.{legal_push}
-use Rattle.actor_world.proofs.Turns.{HeldWord, Turn, Turned, is_answered, changes, ends_flush, ends_reclaim, finds_none, frees_head, frees_one, grow_refuses, grows, installs, load_crowded, load_stale, locked_crowded, locked_stale, makes, makes_none, next_empty, passes_last, pins, pins_locked, reads, refuses, unpins}
-use Rattle.actor_world.proofs.TurnsFound.{Laws}
-use Rattle.actor_world.proofs.Within.{Within, within}
+use Rattle.actor_world.proofs.Turns.{Turn, is_answered, changes, ends_flush, ends_reclaim, finds_none, frees_head, frees_one, grow_refuses, grows, installs, load_crowded, load_stale, locked_crowded, locked_stale, makes, makes_none, next_empty, passes_last, pins, pins_locked, reads, refuses, unpins}
+use Rattle.actor_world.proofs.Within.{Within}
 
 by_row : (t : Table) (key : Key) (made : Call) (answer : Reply) (o : Option Row) → row_of t key ≡ o → KeyReplies t o made answer → KeyReplies t (row_of t key) made answer
 by_row t key made answer o is permits = subst (λ (o : Option Row). KeyReplies t o made answer) (sym is) permits

@@ -21,6 +21,7 @@ mod OpenTurns
 mod PlaceSteps
 mod Prepares
 mod Progress
+mod QueueSteps
 mod RoomTurns
 mod ShapeSteps
 mod Sights

@@ -1,11 +1,10 @@
 -- After a step each free has its call and its reason.
-use Rattle.std.proofs.Common.{◌≡◌, ◌≢◌, ◌<◌, ◌≤◌, ◌+◌, ◌⊎◌, inl, inr, ℕ, zero, suc, Bool, true, false, List, [], ◌∷◌, ◌++◌, Option, None, Some, IsSomeAnd, IsSome, length, slice_get, slice_index_or, slice_set, take, refl, sym, ap, subst, ◌∙◌, arith}
-use Rattle.std.specs.List.{All, AllByRecursion, Contains}
+use Rattle.std.proofs.Common.{◌≡◌, ◌<◌, ◌≤◌, ◌+◌, ◌⊎◌, inl, inr, ℕ, zero, suc, List, [], ◌∷◌, ◌++◌, Option, None, Some, IsSomeAnd, IsSome, length, slice_get, slice_index_or, slice_set, take, refl, sym, ap, subst, ◌∙◌, arith}
+use Rattle.std.specs.List.{Contains}
 use Rattle.std.proofs.lemmas.List.{take-append-le}
 use Rattle.std.proofs.lemmas.List.Elements.{All-contains}
 use Rattle.std.proofs.lemmas.Option.{none-some, same_Some, slice_get_within}
-use Rattle.std.proofs.lemmas.Bool.{false≢true, true≢false}
-use Rattle.life_limits.specs.declared.TheConstants.{MAX_ACTORS}
+use Rattle.std.proofs.lemmas.Bool.{false≢true}
 use Rattle.life_table.specs.declared.key.Key.{Key}
 use Rattle.life_table.specs.declared.types.Row.{Row}
 use Rattle.life_table.specs.declared.types.Call.{Call}
@@ -17,25 +16,23 @@ use Rattle.life_table.specs.declared.types.Event.TheVariants.{Called, Freed}
 use Rattle.life_table.specs.declared.types.Entry.{Entry}
 use Rattle.life_table.specs.declared.table.Table.{Table}
 use Rattle.life_table.specs.Table.{group_number, row_of}
-use Rattle.life_table.specs.Legal.{Awaits, KeyReplies, Permits, RowReplies, Short}
+use Rattle.life_table.specs.Legal.{Awaits, KeyReplies, Short}
 use Rattle.life_table.specs.History.{after_entries}
 use Rattle.actor_world.specs.declared.memory.Place.{Place}
-use Rattle.actor_world.specs.declared.memory.Place.TheVariants as place
 use Rattle.actor_world.specs.declared.memory.Doing.{Doing}
 use Rattle.actor_world.specs.declared.memory.Actor.{Actor}
 use Rattle.actor_world.specs.declared.memory.Memory.{Memory}
 use Rattle.actor_world.specs.Caches.{actor_at, idle_actor, with_actor}
-use Rattle.actor_world.specs.Moves.{group_of_call, is_log_call}
-use Rattle.actor_world.specs.World.{History, told, told_if}
-use Rattle.actor_world.specs.Licence.{BelongsTo, Interval, FreesForRoom, IsAnsweredAt, IsEarlierFree, Licensed, MayFree, Unfinished, queue_at, queue_from, refused_group, table_at}
-use Rattle.actor_world.specs.Invariant.{CallIsRight, HasFreed, HeadIsPassed, NoneLeft, PartOfQueue, QueueIsRight, RowsLeft, is_gc, is_gc_call, reply_at, unanswered, unfinished_from, unfinished_of}
+use Rattle.actor_world.specs.World.{History, told_if}
+use Rattle.actor_world.specs.Licence.{BelongsTo, Interval, FreesForRoom, IsAnsweredAt, Licensed, MayFree, Unfinished, queue_at, queue_from, refused_group, table_at}
+use Rattle.actor_world.specs.Invariant.{CallIsRight, HasFreed, NoneLeft, PartOfQueue, QueueIsRight, is_gc, is_gc_call, reply_at, unanswered, unfinished_from, unfinished_of}
 use Rattle.actor_world.proofs.Begins.{behind}
 use Rattle.actor_world.proofs.CommitSteps.{leads_after}
 use Rattle.actor_world.proofs.Effects.{effect_actors, effect_of}
 use Rattle.actor_world.proofs.EntrySteps.{Answers, EndTurn, EntryTurn, Frees, Gets, Had, Silent, end_turn, entry_turn}
 use Rattle.actor_world.proofs.Lists.{get_kept, get_last, get_push}
 use Rattle.actor_world.proofs.StepTurns.{TurnOf}
-use Rattle.actor_world.proofs.Turns.{Turn, after_turn, changes, frees_head, frees_one, grow_refuses, grows, is_answered, makes, makes_none, next_empty, passes_last, refuses, room_group, maker_group}
+use Rattle.actor_world.proofs.Turns.{Turn, after_turn, changes, frees_head, frees_one, grow_refuses, is_answered, makes, makes_none, next_empty, passes_last, refuses, room_group}
 
 -- ---- calls that are not answered yet
 

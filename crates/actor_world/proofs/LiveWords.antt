@@ -1,7 +1,7 @@
 -- What a word says, whoever is about to mend it.
-use Rattle.std.proofs.Common.{◌≡◌, ◌<◌, ◌≤◌, ◌==◌, ◌/◌, ◌⊎◌, inl, inr, ℕ, Bool, true, false, List, Option, None, Some, IfSome, IsSomeAnd, if◌then◌else◌, refl, sym, ap, subst, ◌∙◌, arith}
+use Rattle.std.proofs.Common.{◌≡◌, ◌<◌, ◌≤◌, ◌==◌, ◌/◌, inl, inr, ℕ, true, false, List, Option, None, Some, if◌then◌else◌, refl, sym, ap, subst, ◌∙◌, arith}
 use Rattle.std.proofs.lemmas.Option.{none-some, same_Some}
-use Rattle.std.proofs.lemmas.Bool.{cases_Bool, eq-eqb, eqb-true, true≢false, false≢true}
+use Rattle.std.proofs.lemmas.Bool.{eq-eqb, eqb-true, true≢false}
 use Rattle.life_limits.specs.declared.TheConstants.{GROUP_NUMBERS, MAX_PINS}
 use Rattle.life_table.specs.declared.key.Key.{Key}
 use Rattle.life_table.specs.declared.types.Row.{Row}
@@ -9,18 +9,15 @@ use Rattle.life_table.specs.declared.types.Call.{Call}
 use Rattle.life_table.specs.declared.table.Inode.{Inode}
 use Rattle.life_table.specs.declared.table.Table.{Table}
 use Rattle.life_table.specs.Legal.{Awaits}
-use Rattle.life_table.specs.Table.{group_number, inode_of, row_in_life, row_of}
-use Rattle.slot_words.specs.declared.word.Word.{Word}
-use Rattle.slot_words.specs.Steps.{is_awaiting, is_crowded}
+use Rattle.life_table.specs.Table.{inode_of, row_in_life, row_of}
 use Rattle.actor_world.specs.declared.memory.Doing.{Doing}
-use Rattle.actor_world.specs.declared.memory.Actor.{Actor}
 use Rattle.actor_world.specs.declared.memory.Memory.{Memory}
 use Rattle.actor_world.specs.Caches.{actor_at, cache_at, cached_word}
 use Rattle.actor_world.specs.World.{History}
-use Rattle.actor_world.specs.Words.{DeadSays, Due, DueHolds, LiveSays, WordSays, any_row, due_at, due_number, install, kill, mark, nothing, says}
-use Rattle.actor_world.specs.Invariant.{ActorIsRight, DoingIsRight, LiesInGroup, WordIsRight, due_in, due_of_actor, due_of_doing, due_of_holder, first_key}
+use Rattle.actor_world.specs.Words.{Due, DueHolds, LiveSays, WordSays, any_row, due_at, due_number, install, kill, mark, nothing, says}
+use Rattle.actor_world.specs.Invariant.{ActorIsRight, DoingIsRight, LiesInGroup, due_of_actor, due_of_doing, due_of_holder, first_key}
 use Rattle.actor_world.proofs.Lists.{the_some}
-use Rattle.actor_world.proofs.Sights.{CanOpen, IsCached, SeesOther, can_open_is, cached_is, is_cached_as}
+use Rattle.actor_world.proofs.Sights.{CanOpen, IsCached}
 use Rattle.actor_world.proofs.Within.{Within}
 
 -- the key of a number in the life of its word

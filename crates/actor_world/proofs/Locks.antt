@@ -1,28 +1,26 @@
 -- A step leaves each lock of a group with the actor whose place lies in it.
-use Rattle.std.proofs.Common.{◌≡◌, ◌≢◌, ◌<◌, ◌≤◌, ◌/◌, ◌⊎◌, inl, inr, ℕ, Bool, true, false, List, [], ◌∷◌, Option, None, Some, IsSomeAnd, if◌then◌else◌, length, slice_set, refl, sym, ap, subst, ◌∙◌}
+use Rattle.std.proofs.Common.{◌≡◌, ◌≢◌, ◌<◌, inl, inr, ℕ, Bool, true, false, List, [], ◌∷◌, Option, None, Some, if◌then◌else◌, length, refl, sym, ap, subst, ◌∙◌}
 use Rattle.std.specs.Prelude.{◌↔◌}
 use Rattle.std.proofs.lemmas.Option.{none-some, same_Some}
-use Rattle.std.proofs.lemmas.Bool.{cases_eq, cases_lt, false≢true, true≢false}
+use Rattle.std.proofs.lemmas.Bool.{cases_eq, cases_lt, false≢true}
 use Rattle.life_table.specs.declared.key.Key.{Key}
 use Rattle.life_table.specs.declared.types.Call.{Call}
 use Rattle.life_table.specs.declared.types.Call.TheVariants as call
 use Rattle.life_table.specs.declared.types.Reply.{Reply}
-use Rattle.life_table.specs.declared.types.Reply.TheVariants as reply
 use Rattle.life_table.specs.declared.types.Event.{Event}
 use Rattle.life_table.specs.declared.table.Table.{Table}
 use Rattle.life_table.specs.Table.{group_number}
 use Rattle.actor_world.specs.declared.memory.Place.{Place}
 use Rattle.actor_world.specs.declared.memory.Place.TheVariants as place
 use Rattle.actor_world.specs.declared.memory.Actor.{Actor}
-use Rattle.actor_world.specs.declared.memory.Doing.{Doing}
 use Rattle.actor_world.specs.declared.memory.GroupCache.{GroupCache}
 use Rattle.actor_world.specs.declared.memory.Memory.{Memory}
-use Rattle.actor_world.specs.Caches.{actor_at, cache_at, idle_actor, locked, unlocked, with_actor, with_cache, with_slot}
-use Rattle.actor_world.specs.Moves.{group_of_call, is_mark_due, lies_in_group, lies_in_log, place_after_change, stands_at, with_inodes, with_rows_to_free, is_log_call}
+use Rattle.actor_world.specs.Caches.{actor_at, cache_at, idle_actor, locked, unlocked, with_actor, with_cache}
+use Rattle.actor_world.specs.Moves.{group_of_call, is_mark_due, lies_in_group, place_after_change, stands_at, with_inodes, with_rows_to_free, is_log_call}
 use Rattle.actor_world.specs.Invariant.{LiesInGroup}
 use Rattle.actor_world.proofs.Lists.{read_other, read_same}
 use Rattle.actor_world.proofs.Slots.{cache_other, cache_past, cache_same, holder_slot, with_cache_past}
-use Rattle.actor_world.proofs.Turns.{CanLock, Turn, after_turn, changer_key, changes, copies, ends_flush, ends_reclaim, finds_none, finds_row, frees_head, frees_one, goes_on, grow_refuses, grows, installs, installs_made, is_answered, kills, kills_head, leaves, load_crowded, load_finds, load_pins, load_stale, locked_crowded, locked_installs, locked_pins, locked_stale, locks_change, locks_flush, locks_reclaim, locks_short, maker_group, makes, makes_none, marks, next_empty, next_none, next_row, passes, passes_last, pin_misses, pin_misses_locked, pins, pins_locked, reads, refuses, retires, retires_none, room_group, unpins}
+use Rattle.actor_world.proofs.Turns.{CanLock, Turn, after_turn, changer_key, changes, copies, ends_flush, ends_reclaim, finds_none, finds_row, frees_head, frees_one, goes_on, grows, installs, installs_made, is_answered, kills, kills_head, leaves, locks_change, locks_flush, locks_reclaim, locks_short, maker_group, makes, marks, next_none, next_row, passes, passes_last, pins, pins_locked, reads, retires, retires_none, room_group, unpins}
 
 -- ---- which lock a call at a place holds
 

@@ -1,5 +1,5 @@
 -- A step leaves the log's lock with the actor whose place lies in it.
-use Rattle.std.proofs.Common.{◌≡◌, ◌≢◌, ◌<◌, ◌==◌, ◌⊎◌, inl, inr, ℕ, Bool, true, false, List, [], ◌∷◌, Option, None, Some, IsSomeAnd, if◌then◌else◌, length, refl, sym, ap, subst, ◌∙◌}
+use Rattle.std.proofs.Common.{◌≡◌, ◌<◌, ◌==◌, ◌⊎◌, inl, inr, ℕ, true, false, List, [], ◌∷◌, Option, None, Some, IsSomeAnd, if◌then◌else◌, length, refl, sym, ap, subst, ◌∙◌}
 use Rattle.std.specs.Prelude.{◌↔◌}
 use Rattle.std.proofs.lemmas.Option.{none-some, same_Some}
 use Rattle.std.proofs.lemmas.Bool.{cases_eq, false≢true, true≢false}
@@ -23,8 +23,8 @@ use Rattle.actor_world.specs.Invariant.{Invariant, LiesInLog}
 use Rattle.actor_world.proofs.EachTurn.{in_list}
 use Rattle.actor_world.proofs.Effects.{effect_actors, effect_of}
 use Rattle.actor_world.proofs.Lists.{read_other, read_same}
-use Rattle.actor_world.proofs.StepTurns.{Stepped, call_of, group_step}
-use Rattle.actor_world.proofs.Turns.{Turn, after_turn, changer_key, changes, finds_none, finds_row, frees_head, frees_one, goes_on, grow_refuses, grows, installs, installs_made, kills, kills_head, load_finds, load_pins, locked_crowded, locked_installs, locked_pins, locked_stale, locks_change, locks_flush, locks_reclaim, locks_short, maker_group, makes, makes_none, marks, next_none, next_row, passes, pin_misses, pin_misses_locked, pins_locked, reads, refuses, retires, retires_none, room_group}
+use Rattle.actor_world.proofs.StepTurns.{call_of, group_step}
+use Rattle.actor_world.proofs.Turns.{Turn, after_turn, changer_key, changes, frees_one, goes_on, installs_made, kills, locks_change, locks_reclaim, locks_short, maker_group, makes, makes_none, marks, refuses, retires, retires_none, room_group}
 use Rattle.actor_world.proofs.TurnsFound.{Laws}
 use Rattle.actor_world.proofs.Within.{Within, within}
 

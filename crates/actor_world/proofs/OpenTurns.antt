@@ -1,25 +1,20 @@
 -- The turns of opens, closes and stats.
-use Rattle.std.proofs.Common.{◌≡◌, ◌<◌, ◌-◌, ◌==◌, ℕ, Bool, true, false, List, Option, None, Some, IfSome, IsSome, IsSomeAnd, if◌then◌else◌, length, refl, sym, ap, subst, ◌∙◌, arith}
-use Rattle.std.proofs.lemmas.Option.{none-some}
+use Rattle.std.proofs.Common.{◌≡◌, ◌<◌, ◌-◌, ◌==◌, ℕ, true, false, List, Option, None, Some, IfSome, IsSome, if◌then◌else◌, length, refl, sym, ap, subst, ◌∙◌, arith}
 use Rattle.std.proofs.lemmas.Bool.{and_parts, eqb-true, false≢true}
-use Rattle.life_limits.specs.declared.TheConstants.{GROUP_NUMBERS, MAX_PINS}
+use Rattle.life_limits.specs.declared.TheConstants.{MAX_PINS}
 use Rattle.life_table.specs.declared.key.Key.{Key}
 use Rattle.life_table.specs.declared.types.Row.{Row}
-use Rattle.life_table.specs.declared.types.Call.{Call}
 use Rattle.life_table.specs.declared.types.Call.TheVariants as call
-use Rattle.life_table.specs.declared.types.Reply.{Reply}
 use Rattle.life_table.specs.declared.types.Reply.TheVariants as reply
-use Rattle.life_table.specs.declared.types.Event.{Event}
 use Rattle.life_table.specs.declared.types.Event.TheVariants.{Called}
 use Rattle.life_table.specs.declared.table.Table.{Table}
 use Rattle.life_table.specs.Table.{group_number, row_of}
-use Rattle.life_table.specs.Legal.{CanMake, IsOpen}
+use Rattle.life_table.specs.Legal.{IsOpen}
 use Rattle.life_table.specs.Replies.{reply_of}
 use Rattle.slot_words.specs.declared.word.Word.{Word}
 use Rattle.slot_words.specs.declared.sight.Sight.{Sight}
 use Rattle.slot_words.specs.declared.sight.Sight.TheVariants as sight
 use Rattle.slot_words.specs.Steps.{after_close, after_install, after_open, can_open, is_cached, sight_of}
-use Rattle.actor_world.specs.declared.memory.Place.{Place}
 use Rattle.actor_world.specs.declared.memory.Place.TheVariants as place
 use Rattle.actor_world.specs.declared.memory.Doing.{Doing}
 use Rattle.actor_world.specs.declared.memory.Actor.{Actor}
@@ -28,14 +23,13 @@ use Rattle.actor_world.specs.declared.memory.Memory.{Memory}
 use Rattle.actor_world.specs.Caches.{actor_at, bring_in, brought, cached_word, ended, idle_actor, is_of_geometry, locked, moved_to, put_inode, put_word, same_word, slot_at, with_actor, with_queue}
 use Rattle.actor_world.specs.World.{History}
 use Rattle.actor_world.specs.Words.{WordSays}
-use Rattle.actor_world.specs.Invariant.{HasRow, PlaceKeeps}
 use Rattle.actor_world.specs.Moves.{answers, close_move, found, load, open_move, pin, pin_locked, release_queue, saw, saw_locked, silent, stat_move}
 use Rattle.actor_world.proofs.LiveWords.{Opened, crowded, opened}
-use Rattle.actor_world.proofs.Lists.{read_same, set_twice, the_some}
-use Rattle.actor_world.proofs.Sights.{CanOpen, can_open_is, cached_is, closed_word, installed_word, opened_word, pinned_is, same_words, sees_awaits, sees_crowded, sees_open, sees_other}
+use Rattle.actor_world.proofs.Lists.{read_same, set_twice}
+use Rattle.actor_world.proofs.Sights.{can_open_is, cached_is, closed_word, installed_word, opened_word, pinned_is, same_words, sees_awaits, sees_crowded, sees_open, sees_other}
 use Rattle.actor_world.proofs.Slots.{placed_has_slot, slot_same, word_over_inode}
-use Rattle.actor_world.proofs.Turns.{CanLock, DeadRow, HasSlot, HeldWord, Turn, Turned, after_turn, finds_none, finds_row, installs, leaves, load_crowded, load_finds, load_pins, load_stale, locked_crowded, locked_installs, locked_pins, locked_stale, pin_misses, pin_misses_locked, pins, pins_locked, reads, unpins, with_word}
-use Rattle.actor_world.proofs.TurnsFound.{Laws, awaits_row, dead_row, ends, goes, no_row, not_live, row_has_slot, table_now}
+use Rattle.actor_world.proofs.Turns.{CanLock, DeadRow, HasSlot, HeldWord, Turned, finds_none, finds_row, installs, load_crowded, load_finds, load_pins, load_stale, locked_crowded, locked_installs, locked_pins, locked_stale, pin_misses, pin_misses_locked, pins, pins_locked, reads, unpins, with_word}
+use Rattle.actor_world.proofs.TurnsFound.{Laws, awaits_row, ends, goes, no_row, not_live, row_has_slot, table_now}
 use Rattle.actor_world.proofs.Within.{Within}
 
 -- a key with a row

@@ -1,5 +1,5 @@
 -- After a step each call in progress stands at one of its places, in a group that is there, and has its holds.
-use Rattle.std.proofs.Common.{◌≡◌, ◌≢◌, ◌<◌, ◌≤◌, ◌+◌, ◌-◌, ◌==◌, ◌&&◌, ◌*◌, ◌/◌, ◌%◌, ◌⊎◌, inl, inr, ℕ, Bool, true, false, List, [], ◌∷◌, ◌++◌, append-nil, append_assoc, Option, None, Some, if◌then◌else◌, nat_lt, length, refl, sym, ap, subst, ◌∙◌, arith}
+use Rattle.std.proofs.Common.{◌≡◌, ◌≢◌, ◌<◌, ◌≤◌, ◌==◌, ◌&&◌, ◌*◌, ◌/◌, ◌%◌, inl, inr, ℕ, Bool, true, false, List, [], ◌∷◌, ◌++◌, append-nil, append_assoc, Option, None, Some, if◌then◌else◌, nat_lt, length, refl, sym, ap, subst, ◌∙◌, arith}
 use Rattle.std.specs.List.{AllByRecursion, count_by}
 use Rattle.std.proofs.lemmas.Option.{none-some, same_Some}
 use Rattle.std.proofs.lemmas.Bool.{and_parts, cases_Bool, cases_eq, eq-eqb, eqb-true, ltb-true, false≢true, true≢false}
@@ -22,8 +22,8 @@ use Rattle.actor_world.specs.declared.memory.Actor.{Actor}
 use Rattle.actor_world.specs.declared.memory.Memory.{Memory}
 use Rattle.actor_world.specs.Caches.{actor_at, idle_actor, is_of_geometry, with_actor}
 use Rattle.actor_world.specs.Moves.{group_of_call, is_mark_due, place_after_change, stands_at, with_inodes, with_rows_to_free, is_log_call}
-use Rattle.actor_world.specs.World.{History, told, told_if}
-use Rattle.actor_world.specs.Invariant.{CallIsRight, GroupIsThere, IsShaped, IsThere, first_key, key_made}
+use Rattle.actor_world.specs.World.{History, told_if}
+use Rattle.actor_world.specs.Invariant.{GroupIsThere, IsShaped, IsThere, first_key, key_made}
 use Rattle.actor_world.proofs.Effects.{effect_actors, effect_of, effect_shape}
 use Rattle.actor_world.proofs.Holding.{count_push, held_other}
 use Rattle.actor_world.proofs.Lists.{length-push, read_other, read_same}
@@ -34,7 +34,7 @@ use Rattle.actor_world.proofs.WordsStill.{WordFacts}
 use Rattle.actor_world.specs.Words.{Due, due_at, due_number, nothing}
 use Rattle.life_table.specs.Legal.{Permits}
 use Rattle.actor_world.proofs.StepTurns.{TurnOf, call_of}
-use Rattle.actor_world.proofs.Turns.{Turn, after_turn, changer_key, changes, finds_none, finds_row, frees_head, frees_one, goes_on, grow_refuses, grows, installs, installs_made, kills, kills_head, load_finds, load_pins, locked_crowded, locked_installs, locked_pins, locked_stale, locks_change, locks_flush, locks_reclaim, locks_short, maker_group, makes, makes_none, marks, next_none, next_row, passes, pin_misses, pin_misses_locked, pins_locked, reads, refuses, retires, retires_none, room_group}
+use Rattle.actor_world.proofs.Turns.{Turn, after_turn, changer_key, changes, frees_head, frees_one, goes_on, kills, load_finds, load_pins, locks_reclaim, locks_short, maker_group, makes, makes_none, passes, refuses, retires, retires_none}
 
 -- ---- the group
 

@@ -1,12 +1,11 @@
 -- The inodes of a table that a create or a free changed.
-use Rattle.std.proofs.Common.{◌≡◌, ◌≢◌, ◌==◌, ◌/◌, ◌%◌, ◌<◌, ◌≤◌, ◌*◌, ◌⊎◌, inl, inr, ℕ, zero, suc, Bool, true, false, List, [], ◌∷◌, Option, None, Some, IsSome, IsSomeAnd, is_some, if◌then◌else◌, nat_lt, length, replicate, slice_get, slice_set, slice_index_or, refl, sym, ap, subst, ◌∙◌, arith}
+use Rattle.std.proofs.Common.{◌≡◌, ◌==◌, ◌/◌, ◌%◌, ◌<◌, ◌⊎◌, inl, inr, ℕ, zero, suc, true, false, List, [], ◌∷◌, Option, None, Some, is_some, if◌then◌else◌, nat_lt, length, replicate, slice_get, slice_set, refl, sym, ap, subst, ◌∙◌, arith}
 use Rattle.std.specs.List.{AllByRecursion}
-use Rattle.std.proofs.lemmas.Option.{none-some, same_Some}
-use Rattle.std.proofs.lemmas.Bool.{cases_Bool, cases_eq, cases_lt, eq-eqb, eqb-true, ltb-true, ltb-false}
+use Rattle.std.proofs.lemmas.Option.{none-some}
+use Rattle.std.proofs.lemmas.Bool.{cases_eq, cases_lt, eq-eqb, eqb-true, ltb-true}
 use Rattle.std.proofs.lemmas.List.{set-get_or}
 use Rattle.life_limits.specs.declared.TheConstants.{CHUNK_INODES, GROUP_NUMBERS}
 use Rattle.life_table.specs.declared.key.Key.{Key}
-use Rattle.life_table.specs.declared.types.Row.{Row}
 use Rattle.life_table.specs.declared.table.Inode.{Inode}
 use Rattle.life_table.specs.declared.table.Chunk.{Chunk}
 use Rattle.life_table.specs.declared.table.Table.{Table}
@@ -16,7 +15,7 @@ use Rattle.life_table.specs.Legal.{IsNextKey, made_row, prepare}
 use Rattle.life_table.specs.WellFormed.{ChunksAscend, IsGroup, IsTable}
 use Rattle.actor_world.specs.Words.{any_row}
 use Rattle.actor_world.proofs.Lists.{all_read, the_some}
-use Rattle.actor_world.proofs.Looks.{group_other, group_past, group_same, inode_other, inode_same}
+use Rattle.actor_world.proofs.Looks.{group_other, group_past, group_same, inode_same}
 
 -- ---- a chunk more
 

@@ -1,20 +1,19 @@
 -- A call that needs no lock that is held has a step.
-use Rattle.std.proofs.Common.{◌≡◌, ℕ, Bool, true, false, List, [], ◌∷◌, Option, None, Some, IsSome, IsSomeAnd, is_some, if◌then◌else◌, refl, sym, ap, subst, ◌∙◌}
+use Rattle.std.proofs.Common.{◌≡◌, ℕ, Bool, true, false, List, [], ◌∷◌, Option, None, Some, IsSome, is_some, if◌then◌else◌, refl, sym, ap, subst, ◌∙◌}
 use Rattle.std.proofs.lemmas.Option.{none-some}
 use Rattle.std.proofs.lemmas.Bool.{false≢true, true≢false}
 use Rattle.life_table.specs.declared.key.Key.{Key}
 use Rattle.life_table.specs.declared.types.Call.{Call}
 use Rattle.life_table.specs.declared.types.Call.TheVariants as call
 use Rattle.life_table.specs.declared.table.Table.{Table}
-use Rattle.life_table.specs.Table.{group_number}
 use Rattle.actor_world.specs.declared.memory.Place.{Place}
 use Rattle.actor_world.specs.declared.memory.Place.TheVariants as place
 use Rattle.actor_world.specs.declared.memory.Doing.{Doing}
 use Rattle.actor_world.specs.declared.memory.Memory.{Memory}
 use Rattle.actor_world.specs.Caches.{actor_at}
-use Rattle.actor_world.specs.Moves.{Move, call_move, change_move, create_move, doing_move, flush_move, gc_move, group_holder, group_of_call, grow_move, lies_in_group, move_of, open_move, reclaim_move, room_move, stands_at, stat_move, close_move, takes_group, waits_in_group, is_log_call}
+use Rattle.actor_world.specs.Moves.{Move, call_move, change_move, create_move, doing_move, flush_move, gc_move, group_holder, group_of_call, grow_move, lies_in_group, move_of, open_move, reclaim_move, stands_at, stat_move, close_move, takes_group, waits_in_group, is_log_call}
 use Rattle.actor_world.specs.World.{History}
-use Rattle.actor_world.specs.Invariant.{CallIsRight, LiesInGroup, PlaceKeeps, first_key}
+use Rattle.actor_world.specs.Invariant.{PlaceKeeps}
 use Rattle.actor_world.proofs.StepTurns.{call_of}
 use Rattle.actor_world.proofs.Waits.{group_takes_none}
 use Rattle.actor_world.proofs.Within.{Within}

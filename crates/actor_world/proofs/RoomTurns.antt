@@ -1,31 +1,30 @@
 -- The turns of calls that change a row, make room or make an inode.
-use Rattle.std.proofs.Common.{◌≡◌, ◌<◌, ◌≤◌, ◌==◌, ℕ, Bool, true, false, List, [], ◌∷◌, Option, None, Some, IfSome, IsSomeAnd, if◌then◌else◌, length, refl, sym, ap, subst, ◌∙◌, arith}
+use Rattle.std.proofs.Common.{◌≡◌, ℕ, Bool, true, false, List, Option, None, Some, IfSome, IsSomeAnd, if◌then◌else◌, refl, sym, subst, ◌∙◌, arith}
 use Rattle.std.proofs.lemmas.Option.{none-some, same_Some}
-use Rattle.std.proofs.lemmas.Bool.{cases_Bool, eq-eqb}
+use Rattle.std.proofs.lemmas.Bool.{eq-eqb}
 use Rattle.life_table.specs.declared.key.Key.{Key}
 use Rattle.life_table.specs.declared.types.Row.{Row}
 use Rattle.life_table.specs.declared.types.Call.{Call}
 use Rattle.life_table.specs.declared.types.Call.TheVariants as call
 use Rattle.life_table.specs.declared.types.Reply.{Reply}
 use Rattle.life_table.specs.declared.types.Reply.TheVariants as reply
-use Rattle.life_table.specs.declared.types.Event.TheVariants.{Called}
 use Rattle.life_table.specs.declared.table.Table.{Table}
 use Rattle.life_table.specs.Table.{group_number, row_of}
-use Rattle.life_table.specs.Legal.{Awaits, CanMake, IsOpen, KeyReplies, Permits, RowReplies}
-use Rattle.life_table.specs.Replies.{create_reply, key_reply, reply_of, row_reply}
+use Rattle.life_table.specs.Legal.{Awaits, Permits}
+use Rattle.life_table.specs.Replies.{create_reply}
 use Rattle.life_table.specs.History.{changed}
 use Rattle.slot_words.specs.declared.word.Word.{Word}
-use Rattle.slot_words.specs.Steps.{after_install, after_kill, after_mark, is_awaiting}
+use Rattle.slot_words.specs.Steps.{is_awaiting}
 use Rattle.actor_world.specs.declared.memory.Place.{Place}
 use Rattle.actor_world.specs.declared.memory.Place.TheVariants as place
 use Rattle.actor_world.specs.declared.memory.Doing.{Doing}
 use Rattle.actor_world.specs.declared.memory.Memory.{Memory}
-use Rattle.actor_world.specs.Caches.{actor_at, cached_word, locked, make_dirty, moved_to, put_word, slot_at}
-use Rattle.actor_world.specs.Moves.{Move, answer_create, answers, change, change_move, create_move, dirtied, grow_move, links_of, makes_unlinked, place_after_change, room_move, sets_mark, silent, with_rows_to_free, group_of_call}
+use Rattle.actor_world.specs.Caches.{actor_at, cached_word, make_dirty, moved_to, put_word}
+use Rattle.actor_world.specs.Moves.{answer_create, answers, change, change_move, create_move, dirtied, links_of, makes_unlinked, place_after_change, room_move, sets_mark, silent, with_rows_to_free, group_of_call}
 use Rattle.actor_world.specs.Words.{InstallDue, KillDue, MarkDue}
 use Rattle.actor_world.proofs.Sights.{installed_word, is_cached_as, killed_word, marked_word, pinned_is}
-use Rattle.actor_world.proofs.Turns.{CanLock, Turn, Turned, changer_key, changes, frees_one, grow_refuses, grows, installs_made, kills, leaves, locks_change, locks_short, maker_group, makes, makes_none, marks, refuses, room_group, with_word}
-use Rattle.actor_world.proofs.TurnsFound.{Laws, ends, goes}
+use Rattle.actor_world.proofs.Turns.{CanLock, Turned, changer_key, changes, frees_one, grow_refuses, grows, installs_made, kills, leaves, locks_short, maker_group, makes, makes_none, marks, refuses, room_group}
+use Rattle.actor_world.proofs.TurnsFound.{ends, goes}
 
 -- ---- link, unlink, cut
 

@@ -1,5 +1,5 @@
 -- A step leaves a shaped world, whose entries stand within their calls, and no live word without an inode in core.
-use Rattle.std.proofs.Common.{◌≡◌, ◌<◌, ◌≤◌, ◌+◌, ◌*◌, inl, inr, ℕ, List, [], ◌∷◌, ◌++◌, Option, None, Some, length, slice_get, slice_set, refl, sym, ap, subst, ◌∙◌, arith}
+use Rattle.std.proofs.Common.{◌≡◌, ◌≤◌, ◌+◌, ◌*◌, inl, inr, ℕ, List, Option, None, Some, length, refl, sym, ap, subst, ◌∙◌, arith}
 use Rattle.std.specs.List.{AllByRecursion}
 use Rattle.std.proofs.lemmas.Option.{same_Some}
 use Rattle.life_limits.specs.declared.TheConstants.{BLOCK_SECTORS}
@@ -15,13 +15,13 @@ use Rattle.life_table.specs.declared.types.Entry.{Entry}
 use Rattle.life_table.specs.declared.table.Inode.{Inode}
 use Rattle.life_table.specs.declared.table.Table.{Table}
 use Rattle.life_table.specs.Table.{Group, row_of, with_group, with_inode, with_row}
-use Rattle.life_table.specs.Legal.{after_call, made_row, prepare, row_after, with_changed}
+use Rattle.life_table.specs.Legal.{after_call, made_row, prepare, with_changed}
 use Rattle.life_table.specs.History.{after_event}
 use Rattle.actor_world.specs.declared.memory.Actor.{Actor}
 use Rattle.actor_world.specs.declared.memory.GroupCache.{GroupCache}
 use Rattle.actor_world.specs.declared.memory.Memory.{Memory}
 use Rattle.actor_world.specs.Caches.{with_actor}
-use Rattle.actor_world.specs.World.{History, told, told_if}
+use Rattle.actor_world.specs.World.{History, told_if}
 use Rattle.actor_world.specs.Licence.{Interval}
 use Rattle.actor_world.specs.Invariant.{IsShaped}
 use Rattle.actor_world.proofs.Effects.{SameShape}

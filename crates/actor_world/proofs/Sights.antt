@@ -1,9 +1,8 @@
 -- What the tests of a word say.
-use Rattle.std.proofs.Common.{◌≡◌, ◌≢◌, ◌<◌, ◌+◌, ◌-◌, ◌==◌, ◌&&◌, ℕ, Bool, true, false, not, Option, None, Some, if◌then◌else◌, nat_lt, refl, sym, ap, ◌∙◌, arith}
+use Rattle.std.proofs.Common.{◌≡◌, ◌<◌, ◌+◌, ◌-◌, ◌==◌, ◌&&◌, ℕ, Bool, true, false, not, None, Some, if◌then◌else◌, nat_lt, refl, sym, ap, ◌∙◌, arith}
 use Rattle.std.proofs.lemmas.Bool.{and_parts, eqb-true, eq-eqb, ltb-true, true≢false, false≢true}
 use Rattle.life_limits.specs.declared.TheConstants.{MAX_PINS}
 use Rattle.slot_words.specs.declared.word.Word.{Word}
-use Rattle.slot_words.specs.declared.sight.Sight.{Sight}
 use Rattle.slot_words.specs.declared.sight.Sight.TheVariants.{Open, Crowded, Awaits, Other}
 use Rattle.slot_words.specs.Steps.{after_close, after_install, after_kill, after_mark, after_open, after_retire, can_open, is_awaiting, is_cached, is_crowded, is_idle, is_pinned, sight_of}
 use Rattle.actor_world.specs.Caches.{same_bit, same_word}

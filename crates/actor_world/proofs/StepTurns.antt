@@ -1,8 +1,6 @@
 -- Each step of a world that meets the invariant is one of the turns.
-use Rattle.std.proofs.Common.{◌≡◌, ◌<◌, ◌≤◌, ℕ, true, false, List, [], ◌∷◌, ◌++◌, Option, None, Some, IfSome, IsSomeAnd, Result, Ok, Err, length, refl, sym, ap, subst, ◌∙◌, arith}
-use Rattle.std.proofs.lemmas.Option.{none-some, same_Some}
+use Rattle.std.proofs.Common.{◌≡◌, ◌<◌, ℕ, true, List, [], ◌∷◌, Option, None, Some, IfSome, Result, Ok, Err, length, refl, sym, ap, subst, ◌∙◌}
 use Rattle.std.proofs.lemmas.Bool.{false≢true}
-use Rattle.life_limits.specs.declared.TheConstants.{MAX_PINS}
 use Rattle.log_record.specs.declared.image.Commit.{Commit}
 use Rattle.log_record.specs.declared.image.Image.{Image}
 use Rattle.log_store.specs.declared.fault.Progress.{Progress}
@@ -12,34 +10,29 @@ use Rattle.log_store.specs.declared.fault.StoreFault.TheVariants as faults
 use Rattle.log_store.specs.State.{State, state_of}
 use Rattle.log_store.specs.Outcome.{down_count}
 use Rattle.life_table.specs.declared.key.Key.{Key}
-use Rattle.life_table.specs.declared.types.Row.{Row}
 use Rattle.life_table.specs.declared.types.Call.{Call}
 use Rattle.life_table.specs.declared.types.Call.TheVariants as call
 use Rattle.life_table.specs.declared.types.Reply.{Reply}
 use Rattle.life_table.specs.declared.types.Reply.TheVariants as reply
 use Rattle.life_table.specs.declared.types.Event.{Event}
-use Rattle.life_table.specs.declared.types.Event.TheVariants.{Called, Freed}
-use Rattle.life_table.specs.declared.types.Entry.{Entry}
+use Rattle.life_table.specs.declared.types.Event.TheVariants.{Called}
 use Rattle.life_table.specs.declared.table.Table.{Table}
-use Rattle.life_table.specs.Table.{row_of}
-use Rattle.life_table.specs.Legal.{KeyReplies, Permits}
-use Rattle.life_table.specs.History.{Happens, IsByHolder, IsHeld, LegalHistory, after_event, key_of}
+use Rattle.life_table.specs.Legal.{Permits}
 use Rattle.actor_world.specs.declared.memory.Place.{Place}
 use Rattle.actor_world.specs.declared.memory.Place.TheVariants as place
 use Rattle.actor_world.specs.declared.memory.Doing.{Doing}
 use Rattle.actor_world.specs.declared.memory.Memory.{Memory}
 use Rattle.actor_world.specs.Caches.{actor_at, with_actor}
 use Rattle.actor_world.specs.Moves.{Move, move_of, stands_at, is_log_call}
-use Rattle.actor_world.specs.World.{History, World, told, told_if}
-use Rattle.actor_world.specs.Steps.{DiskFace, HomeStep, IsAdvanced, IsGroupStep, IsHomeBegun, IsLogTurn, IsTake, Step, StepOf, SyncStep, Telling, answered, dirty_answer, home_answer, or_down, pending_answer, progress_answer, take_answer}
+use Rattle.actor_world.specs.World.{History, World, told_if}
+use Rattle.actor_world.specs.Steps.{DiskFace, HomeStep, IsGroupStep, IsLogTurn, Step, StepOf, SyncStep, Telling, dirty_answer, or_down, pending_answer, progress_answer}
 use Rattle.actor_world.specs.Words.{nothing, due_at}
-use Rattle.actor_world.specs.Invariant.{CallIsRight, DoingIsRight, Invariant, due_of_actor, due_of_doing, first_key}
+use Rattle.actor_world.specs.Invariant.{CallIsRight, DoingIsRight, due_of_doing, first_key}
 use Rattle.actor_world.proofs.EachTurn.{in_call, in_list, turn_of}
 use Rattle.actor_world.proofs.HeldWords.{held_word}
-use Rattle.actor_world.proofs.Holding.{legal_push}
-use Rattle.actor_world.proofs.Turns.{HeldWord, Turn, Turned, after_turn, goes_on, is_answered, changes, ends_flush, ends_reclaim, finds_none, frees_head, frees_one, grow_refuses, grows, installs, load_crowded, load_stale, locked_crowded, locked_stale, makes, makes_none, next_empty, passes_last, pins, pins_locked, reads, refuses, unpins}
+use Rattle.actor_world.proofs.Turns.{Turn, Turned, after_turn, goes_on, is_answered}
 use Rattle.actor_world.proofs.TurnsFound.{Laws}
-use Rattle.actor_world.proofs.Within.{Within, within}
+use Rattle.actor_world.proofs.Within.{Within}
 
 -- what the log answers is legal of any table
 or_down_permits : (t : Table) (made : Call) (down : Option ℕ) (answer : Option Reply) → ((fault : ℕ) → Permits t made (reply.Down fault)) → IfSome answer (Permits t made) → IfSome (or_down down answer) (Permits t made)

@@ -1,5 +1,5 @@
 -- What a step of the store leaves of the commits that wait.
-use Rattle.std.proofs.Common.{◌≡◌, ◌<◌, ◌≤◌, ◌+◌, ◌-◌, ◌^◌, ℕ, Bool, true, false, List, [], ◌∷◌, Result, Ok, Err, drop, if◌then◌else◌, length, nat_lt, refl, sym, ap, subst, ◌∙◌}
+use Rattle.std.proofs.Common.{◌≡◌, ◌≤◌, ◌+◌, ◌^◌, ℕ, Bool, true, false, List, [], ◌∷◌, Result, Ok, Err, drop, if◌then◌else◌, length, nat_lt, refl, sym, subst, ◌∙◌}
 use Rattle.std.proofs.lemmas.Bool.{false≢true, true≢false}
 use Rattle.log_record.specs.declared.image.Commit.{Commit}
 use Rattle.log_record.specs.declared.image.Image.{Image}
@@ -14,7 +14,7 @@ use Rattle.log_store.specs.declared.store.Stage.TheVariants.{Cover, Down, Free, 
 use Rattle.log_store.specs.declared.store.Store.{Store}
 use Rattle.log_store.specs.Calls.{with_batch}
 use Rattle.log_store.specs.State.{State, state_of}
-use Rattle.log_store.specs.Actions.{Action, IsGathered, IsStep, action_at, action_at_rest, done_state, end_job, end_positions, failed_state, flush_cover, flush_home, flush_record, force_action, gathers, home_action, room_action, state_after, stay_down, step_action, step_job, within_positions, write_cover, write_home, write_record, write_rest}
+use Rattle.log_store.specs.Actions.{Action, IsGathered, IsStep, action_at, action_at_rest, done_state, end_job, end_positions, failed_state, flush_cover, flush_home, flush_record, force_action, gathers, home_action, state_after, stay_down, step_action, step_job, within_positions, write_cover, write_home, write_record, write_rest}
 use Rattle.actor_world.specs.Steps.{DiskFace}
 use Rattle.actor_world.specs.Invariant.{TakenFits}
 

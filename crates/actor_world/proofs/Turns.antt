@@ -1,5 +1,5 @@
 -- The ways in which a step goes, each with what it finds.
-use Rattle.std.proofs.Common.{◌≡◌, ◌<◌, ◌≤◌, ◌+◌, ◌-◌, ◌%◌, ◌/◌, ℕ, Bool, true, false, List, [], ◌∷◌, Option, None, Some, IsSomeAnd, length, slice_index_or, slice_set, refl, ap}
+use Rattle.std.proofs.Common.{◌≡◌, ◌<◌, ◌≤◌, ◌+◌, ◌-◌, ◌%◌, ◌/◌, ℕ, true, false, List, [], ◌∷◌, Option, None, Some, IsSomeAnd, length}
 use Rattle.life_limits.specs.declared.TheConstants.{GROUP_NUMBERS, MAX_PINS}
 use Rattle.life_table.specs.declared.key.Key.{Key}
 use Rattle.life_table.specs.declared.types.Row.{Row}
@@ -21,7 +21,7 @@ use Rattle.actor_world.specs.declared.memory.Place.TheVariants as place
 use Rattle.actor_world.specs.declared.memory.Residence.TheVariants.{Absent}
 use Rattle.actor_world.specs.declared.memory.Actor.{Actor}
 use Rattle.actor_world.specs.declared.memory.Memory.{Memory}
-use Rattle.actor_world.specs.Caches.{actor_at, brought, cache_at, cached_word, clean_of, copy_all, is_of_geometry, locked, make_dirty, moved_to, ended, idle_actor, slot_at, unlocked, with_actor, with_slot}
+use Rattle.actor_world.specs.Caches.{brought, cache_at, cached_word, clean_of, copy_all, is_of_geometry, locked, make_dirty, slot_at, unlocked, with_actor, with_slot}
 use Rattle.actor_world.specs.Moves.{Move, group_of_call, is_log_call, links_of, makes_unlinked, place_after_change, release_queue, rows_to_free, sets_mark, stands_at, with_inodes, with_rows_to_free}
 use Rattle.actor_world.specs.Words.{InstallDue, KillDue, MarkDue}
 use Rattle.actor_world.proofs.LiveWords.{Opened}

@@ -1,44 +1,32 @@
 -- The turns of opens, closes and stats: how each move of theirs goes.
-use Rattle.std.proofs.Common.{◌≡◌, ◌<◌, ◌≤◌, ◌==◌, ◌&&◌, ◌%◌, ◌/◌, ◌*◌, ◌⊎◌, inl, inr, ℕ, Bool, true, false, not, List, Option, None, Some, IfSome, IsSome, IsSomeAnd, is_some, if◌then◌else◌, nat_lt, length, slice_set, refl, sym, ap, subst, ◌∙◌, arith}
+use Rattle.std.proofs.Common.{◌≡◌, ◌<◌, ◌≤◌, ◌==◌, ◌&&◌, inl, inr, ℕ, true, false, not, List, Option, None, Some, IfSome, nat_lt, refl, sym, ap, subst, ◌∙◌, arith}
 use Rattle.std.specs.Cmp.Derive.{both_true}
-use Rattle.std.proofs.lemmas.Option.{none-some, same_Some}
-use Rattle.std.proofs.lemmas.Bool.{and_parts, cases_Bool, cases_lt, eq-eqb, eqb-true, true≢false, false≢true}
-use Rattle.life_limits.specs.declared.TheConstants.{BLOCK_SECTORS, GROUP_NUMBERS, MAX_PINS}
+use Rattle.std.proofs.lemmas.Option.{same_Some}
+use Rattle.std.proofs.lemmas.Bool.{and_parts, cases_Bool, cases_lt, eq-eqb, eqb-true, true≢false}
+use Rattle.life_limits.specs.declared.TheConstants.{MAX_PINS}
 use Rattle.life_table.specs.declared.key.Key.{Key}
 use Rattle.life_table.specs.declared.types.Row.{Row}
 use Rattle.life_table.specs.declared.types.Call.{Call}
-use Rattle.life_table.specs.declared.types.Call.TheVariants as call
-use Rattle.life_table.specs.declared.types.Reply.{Reply}
-use Rattle.life_table.specs.declared.types.Reply.TheVariants as reply
 use Rattle.life_table.specs.declared.types.Event.{Event}
 use Rattle.life_table.specs.declared.types.Entry.{Entry}
-use Rattle.life_table.specs.declared.table.Inode.{Inode}
 use Rattle.life_table.specs.declared.table.Table.{Table}
-use Rattle.life_table.specs.Table.{group_number, inode_of, row_in_life, row_of}
+use Rattle.life_table.specs.Table.{inode_of, row_of}
 use Rattle.life_table.specs.Legal.{Awaits, CanMake, IsOfTable, IsOpen, Permits}
 use Rattle.life_table.specs.Replies.{reply_of}
 use Rattle.life_table.specs.History.{LegalHistory, Leads, holds}
 use Rattle.life_table.specs.WellFormed.{IsRow, IsTable}
 use Rattle.slot_words.specs.declared.word.Word.{Word}
-use Rattle.slot_words.specs.declared.sight.Sight.{Sight}
-use Rattle.slot_words.specs.declared.sight.Sight.TheVariants as sight
-use Rattle.slot_words.specs.Steps.{can_open, is_awaiting, is_cached, is_crowded, sight_of}
+use Rattle.slot_words.specs.Steps.{can_open, is_awaiting, is_cached, is_crowded}
 use Rattle.actor_world.specs.declared.memory.Place.{Place}
-use Rattle.actor_world.specs.declared.memory.Place.TheVariants as place
-use Rattle.actor_world.specs.declared.memory.Doing.{Doing}
-use Rattle.actor_world.specs.declared.memory.Actor.{Actor}
 use Rattle.actor_world.specs.declared.memory.Memory.{Memory}
-use Rattle.actor_world.specs.Caches.{actor_at, cached_word, ended, is_of_geometry, locked, moved_to, put_word, slot_at, brought, with_actor}
+use Rattle.actor_world.specs.Caches.{actor_at, cached_word, ended, is_of_geometry, moved_to, with_actor}
 use Rattle.actor_world.specs.World.{History}
-use Rattle.actor_world.specs.Words.{DeadSays, LiveSays, WordSays, any_row, nothing, says}
-use Rattle.actor_world.specs.Invariant.{LiesInGroup, due_of_actor}
-use Rattle.actor_world.specs.Moves.{Move}
+use Rattle.actor_world.specs.Words.{DeadSays, LiveSays, WordSays, any_row, says}
 use Rattle.actor_world.proofs.Geometry.{IsPlaced, is_placed}
 use Rattle.actor_world.proofs.Lists.{the_some}
-use Rattle.actor_world.proofs.LiveWords.{Opened, any_row_is, crowded, has_inode, one_life, opened, right_under}
-use Rattle.actor_world.proofs.Sights.{CanOpen, IsCached, SeesOther, can_open_is, cached_is, is_cached_as, same_words, sees_awaits, sees_crowded, sees_open, sees_other}
-use Rattle.actor_world.proofs.Slots.{placed_has_slot}
-use Rattle.actor_world.proofs.Turns.{CanLock, DeadRow, HasSlot, HeldWord, Turn, Turned, after_turn}
+use Rattle.actor_world.proofs.LiveWords.{any_row_is, has_inode, one_life}
+use Rattle.actor_world.proofs.Sights.{SeesOther, cached_is, is_cached_as}
+use Rattle.actor_world.proofs.Turns.{DeadRow, HasSlot, Turn, Turned}
 use Rattle.actor_world.proofs.Within.{Within}
 
 -- The laws of the model that are used.

@@ -1,5 +1,5 @@
 -- What is so of a world apart from its log.
-use Rattle.std.proofs.Common.{◌≡◌, ℕ, true, Option, None, Some}
+use Rattle.std.proofs.Common.{◌≡◌, ℕ, true, Some}
 use Rattle.std.specs.Prelude.{◌↔◌}
 use Rattle.life_table.specs.declared.table.Table.{Table}
 use Rattle.life_table.specs.History.{LegalHistory}

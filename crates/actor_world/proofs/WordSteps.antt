@@ -1,28 +1,20 @@
 -- After a step no word lies but those that a holder is about to mend.
-use Rattle.std.proofs.Common.{◌≡◌, ◌≢◌, ◌<◌, ◌≤◌, ◌+◌, ◌-◌, ◌==◌, ◌/◌, ◌%◌, ◌⊎◌, inl, inr, ℕ, Bool, true, false, List, [], ◌∷◌, Option, None, Some, IfSome, IsSomeAnd, if◌then◌else◌, length, refl, sym, ap, subst, ◌∙◌, arith}
-use Rattle.std.proofs.lemmas.Option.{none-some, same_Some}
-use Rattle.std.proofs.lemmas.Bool.{and_parts, cases_Bool, cases_eq, eq-eqb, eqb-true, ne_eqb, false≢true, true≢false}
-use Rattle.life_limits.specs.declared.TheConstants.{GROUP_NUMBERS}
+use Rattle.std.proofs.Common.{◌≡◌, ◌≢◌, ◌+◌, inl, inr, ℕ, true, false, Option, None, Some, IfSome, IsSomeAnd, refl, sym, ap, subst, ◌∙◌}
 use Rattle.life_table.specs.declared.key.Key.{Key}
 use Rattle.life_table.specs.declared.types.Row.{Row}
 use Rattle.life_table.specs.declared.types.Call.{Call}
-use Rattle.life_table.specs.declared.types.Call.TheVariants as call
-use Rattle.life_table.specs.declared.types.Reply.TheVariants as reply
-use Rattle.life_table.specs.declared.types.Event.{Event}
-use Rattle.life_table.specs.declared.types.Event.TheVariants.{Called, Freed}
 use Rattle.life_table.specs.declared.table.Inode.{Inode}
 use Rattle.life_table.specs.declared.table.Table.{Table}
-use Rattle.life_table.specs.Table.{inode_of, row_in_life, row_of, with_inode, with_row}
-use Rattle.life_table.specs.Legal.{KeyReplies, RowReplies, made_row, prepare, row_after, with_changed}
+use Rattle.life_table.specs.Table.{inode_of, row_in_life, row_of, with_inode}
+use Rattle.life_table.specs.Legal.{row_after, with_changed}
 use Rattle.slot_words.specs.declared.word.Word.{Word}
 use Rattle.actor_world.specs.declared.memory.Slot.{Slot}
 use Rattle.actor_world.specs.declared.memory.Memory.{Memory}
-use Rattle.actor_world.specs.Caches.{cached_word, slot_at, with_slot}
+use Rattle.actor_world.specs.Caches.{cached_word, with_slot}
 use Rattle.actor_world.specs.Words.{DeadSays, LiveSays, WordSays, any_row, says}
-use Rattle.actor_world.proofs.Lists.{the_some}
-use Rattle.actor_world.proofs.LiveWords.{HasInode, any_row_is, has_inode}
+use Rattle.actor_world.proofs.LiveWords.{has_inode}
 use Rattle.actor_world.proofs.Looks.{inode_other, inode_same, row_same}
-use Rattle.actor_world.proofs.Prepares.{IsBare, StaysOrComes}
+use Rattle.actor_world.proofs.Prepares.{StaysOrComes}
 use Rattle.actor_world.proofs.Slots.{slot_same}
 use Rattle.actor_world.proofs.Turns.{HasSlot}
 

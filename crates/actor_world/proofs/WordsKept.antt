@@ -1,22 +1,20 @@
 -- After a step no word lies but those that a lock's holder is about to mend.
-use Rattle.std.proofs.Common.{◌≡◌, ◌≢◌, ◌<◌, ◌/◌, ◌⊎◌, inl, inr, ℕ, List, [], ◌∷◌, Option, None, Some, length, refl, sym, ap, subst, ◌∙◌}
+use Rattle.std.proofs.Common.{◌≡◌, ◌≢◌, ◌<◌, ◌/◌, inl, inr, ℕ, List, [], ◌∷◌, Option, None, Some, length, refl, sym, ap, subst, ◌∙◌}
 use Rattle.std.specs.Prelude.{◌↔◌}
-use Rattle.std.proofs.lemmas.Option.{none-some, same_Some}
+use Rattle.std.proofs.lemmas.Option.{none-some}
 use Rattle.std.proofs.lemmas.Bool.{cases_eq}
 use Rattle.life_limits.specs.declared.TheConstants.{GROUP_NUMBERS}
 use Rattle.life_table.specs.declared.key.Key.{Key}
-use Rattle.life_table.specs.declared.types.Row.{Row}
 use Rattle.life_table.specs.declared.types.Call.{Call}
-use Rattle.life_table.specs.declared.types.Reply.{Reply}
 use Rattle.life_table.specs.declared.types.Event.{Event}
 use Rattle.life_table.specs.declared.types.Event.TheVariants.{Called}
 use Rattle.life_table.specs.declared.types.Entry.{Entry}
 use Rattle.life_table.specs.declared.table.Table.{Table}
-use Rattle.life_table.specs.Legal.{Permits, after_call}
+use Rattle.life_table.specs.Legal.{after_call}
 use Rattle.actor_world.specs.declared.memory.Place.{Place}
 use Rattle.actor_world.specs.declared.memory.Actor.{Actor}
 use Rattle.actor_world.specs.declared.memory.Memory.{Memory}
-use Rattle.actor_world.specs.Caches.{actor_at, cache_at, cached_word, idle_actor, with_actor}
+use Rattle.actor_world.specs.Caches.{actor_at, cache_at, idle_actor, with_actor}
 use Rattle.actor_world.specs.World.{History, told_if}
 use Rattle.actor_world.specs.Words.{due_number}
 use Rattle.actor_world.specs.Invariant.{LiesInGroup, WordIsRight, due_of_actor, due_of_holder}
@@ -24,7 +22,7 @@ use Rattle.actor_world.proofs.Lists.{read_other, read_same}
 use Rattle.actor_world.proofs.Prepares.{LowestIsFree, made_is}
 use Rattle.actor_world.proofs.Slots.{placed_has_slot}
 use Rattle.actor_world.proofs.StepTurns.{TurnOf}
-use Rattle.actor_world.proofs.Turns.{Turn, after_turn}
+use Rattle.actor_world.proofs.Turns.{after_turn}
 use Rattle.actor_world.proofs.TurnsFound.{Laws, row_has_slot, table_now}
 use Rattle.actor_world.proofs.Within.{Within}
 use Rattle.actor_world.proofs.WordsStill.{WordFacts, still}

@@ -1,7 +1,7 @@
 -- After each turn a word is right, or about to be mended.
-use Rattle.std.proofs.Common.{◌≡◌, ◌≢◌, ◌<◌, ◌≤◌, ◌+◌, ◌-◌, ◌==◌, ◌&&◌, ◌/◌, ◌⊎◌, inl, inr, ℕ, Bool, true, false, not, List, [], ◌∷◌, Option, None, Some, IfSome, IsSomeAnd, if◌then◌else◌, length, refl, sym, ap, subst, ◌∙◌, arith}
+use Rattle.std.proofs.Common.{◌≡◌, ◌≢◌, ◌≤◌, ◌+◌, ◌-◌, ◌==◌, ◌/◌, inl, inr, ℕ, Bool, true, false, List, Option, None, Some, if◌then◌else◌, refl, sym, ap, subst, ◌∙◌, arith}
 use Rattle.std.proofs.lemmas.Option.{none-some, same_Some}
-use Rattle.std.proofs.lemmas.Bool.{and_parts, cases_Bool, cases_eq, eq-eqb, eqb-true, ne_eqb, false≢true, true≢false}
+use Rattle.std.proofs.lemmas.Bool.{cases_eq, eq-eqb, ne_eqb, false≢true, true≢false}
 use Rattle.life_limits.specs.declared.TheConstants.{GROUP_NUMBERS}
 use Rattle.life_table.specs.declared.key.Key.{Key}
 use Rattle.life_table.specs.declared.types.Row.{Row}
@@ -10,35 +10,26 @@ use Rattle.life_table.specs.declared.types.Call.TheVariants as call
 use Rattle.life_table.specs.declared.types.Reply.{Reply}
 use Rattle.life_table.specs.declared.types.Reply.TheVariants as reply
 use Rattle.life_table.specs.declared.types.Event.{Event}
-use Rattle.life_table.specs.declared.types.Event.TheVariants.{Called, Freed}
 use Rattle.life_table.specs.declared.table.Inode.{Inode}
 use Rattle.life_table.specs.declared.table.Table.{Table}
-use Rattle.life_table.specs.Table.{group_number, in_use, inode_of, row_in_life, row_of, with_inode, with_row}
-use Rattle.life_table.specs.Legal.{IsNextKey, KeyReplies, Legal, Permits, RowReplies, after_call, freed, made_row, prepare, row_after, with_changed}
-use Rattle.life_table.specs.History.{after_event, changed}
+use Rattle.life_table.specs.Table.{in_use, inode_of, row_of, with_row}
+use Rattle.life_table.specs.Legal.{IsNextKey, KeyReplies, Permits, RowReplies, after_call, freed, made_row, prepare, row_after, with_changed}
+use Rattle.life_table.specs.History.{changed}
 use Rattle.life_table.specs.WellFormed.{IsTable}
-use Rattle.slot_words.specs.declared.word.Word.{Word}
-use Rattle.slot_words.specs.Steps.{is_idle}
 use Rattle.actor_world.specs.declared.memory.Place.{Place}
 use Rattle.actor_world.specs.declared.memory.Place.TheVariants as place
-use Rattle.actor_world.specs.declared.memory.Residence.{Residence}
 use Rattle.actor_world.specs.declared.memory.Slot.{Slot}
 use Rattle.actor_world.specs.declared.memory.Memory.{Memory}
-use Rattle.actor_world.specs.Caches.{cache_at, cached_word, copied_slot, copy_all, locked, make_dirty, slot_at, unlocked, with_cache, with_slot}
-use Rattle.actor_world.specs.Moves.{group_of_call, is_mark_due, lies_in_group, links_of, makes_unlinked, place_after_change, sets_mark, stands_at, is_log_call}
-use Rattle.actor_world.specs.Words.{DeadSays, InstallDue, KillDue, LiveSays, MarkDue, WordSays, any_row, due_at, due_number, mark_due_by, nothing, says}
-use Rattle.actor_world.specs.Invariant.{LiesInGroup, due_of_actor, first_key}
-use Rattle.actor_world.proofs.Effects.{Copies, Effect, Locks, Puts, Same, Unlocks, slots_copied, slots_stay}
-use Rattle.actor_world.proofs.Lists.{the_some}
-use Rattle.actor_world.proofs.Locks.{maker_call_group, room_call_group}
-use Rattle.actor_world.proofs.LiveWords.{Opened, any_row_is}
+use Rattle.actor_world.specs.Caches.{cache_at, cached_word, copy_all, make_dirty, with_cache}
+use Rattle.actor_world.specs.Moves.{group_of_call, lies_in_group, links_of, place_after_change, is_log_call}
+use Rattle.actor_world.specs.Words.{WordSays, due_at, due_number}
+use Rattle.actor_world.specs.Invariant.{first_key}
+use Rattle.actor_world.proofs.Effects.{slots_copied, slots_stay}
+use Rattle.actor_world.proofs.Locks.{room_call_group}
 use Rattle.actor_world.proofs.Looks.{inode_other}
-use Rattle.actor_world.proofs.Prepares.{LowestIsFree, MadeRow, StaysOrComes, made_is, prepare_stays}
-use Rattle.actor_world.proofs.Sights.{negated}
-use Rattle.actor_world.proofs.Slots.{live_has_slot, slot_other}
-use Rattle.actor_world.proofs.Turns.{CanLock, DeadRow, HasSlot, HeldWord, Turn, after_turn, changer_key, changes, copies, ends_flush, ends_reclaim, finds_none, finds_row, frees_head, frees_one, goes_on, grow_refuses, grows, installs, installs_made, is_answered, kills, kills_head, leaves, load_crowded, load_finds, load_pins, load_stale, locked_crowded, locked_installs, locked_pins, locked_stale, locks_change, locks_flush, locks_reclaim, locks_short, maker_group, makes, makes_none, marks, next_empty, next_none, next_row, passes, passes_last, pin_misses, pin_misses_locked, pins, pins_locked, reads, refuses, retires, retires_none, unpins, with_word}
-use Rattle.actor_world.proofs.TurnsFound.{Laws, live_row}
-use Rattle.actor_world.proofs.WordSteps.{changed_other, changed_row, freed_bare, put_word_is, says_dead, says_live, says_stays}
+use Rattle.actor_world.proofs.Prepares.{MadeRow, StaysOrComes, prepare_stays}
+use Rattle.actor_world.proofs.Turns.{Turn, changer_key, changes, copies, ends_flush, ends_reclaim, finds_none, finds_row, frees_head, frees_one, grow_refuses, grows, installs, installs_made, is_answered, kills, kills_head, leaves, locks_change, locks_flush, locks_reclaim, locks_short, maker_group, makes, makes_none, marks, next_none, next_row, passes, passes_last, pins, pins_locked, reads, refuses, retires, unpins}
+use Rattle.actor_world.proofs.WordSteps.{changed_other, changed_row}
 use Rattle.actor_world.proofs.WordTurns.{RowsHaveSlots, Still, decide, dirty_says, elsewhere, install_mends, install_says, kill_mends, mark_mends, pin_says, retire_says, table_after, unpin_says}
 
 -- What the turns rest on.

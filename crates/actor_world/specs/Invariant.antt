@@ -6,7 +6,7 @@ use Rattle.log_record.specs.declared.image.Commit.{Commit}
 use Rattle.log_store.specs.declared.store.Job.{Job}
 use Rattle.log_store.specs.declared.store.Job.TheVariants as job
 use Rattle.log_store.specs.declared.store.Stage.{Stage}
-use Rattle.log_store.specs.declared.store.Stage.TheVariants.{Cover, Down, Free, Half, Record}
+use Rattle.log_store.specs.declared.store.Stage.TheVariants.{Down, Free, Half, Record}
 use Rattle.log_store.specs.State.{State, state_of}
 use Rattle.log_store.specs.Outcome.{down_count, goal_of}
 use Rattle.life_table.specs.declared.key.Key.{Key}

@@ -1,6 +1,8 @@
 // Laws of the world's steps.
 
-ghost use Rattle.std.specs.Prelude.{◌≡◌, ◌≤◌, ℕ, true, false, List, Option, None, Some, length, ◌↔◌, ◌/◌, IsSome};
+ghost use Rattle.std.specs.Prelude.{◌≡◌, ◌≤◌, ℕ, true, false, List, Option, None, Some, length, ◌↔◌, ◌/◌, ◌<◌, IsSome};
+ghost use Rattle.std.specs.List.{AllByRecursion};
+ghost use Rattle.life_table.specs.Table.{group_number};
 ghost use Rattle.log_record.specs.declared.image.Commit.{Commit};
 ghost use Rattle.life_table.specs.declared.key.Key.{Key};
 ghost use Rattle.life_table.specs.declared.types.Call.{Call as AnyCall};
@@ -271,6 +273,17 @@ pub fn calls_wait_for_locks_alone<D: Disk, T: Tells>()
 pub fn steps_keep_the_licence<D: Disk, T: Tells>()
     ensures { (face : DiskFace D) (start : Table) (a : ℕ) (old new : World D) → Invariant T.tells start old → Step face T.tells a old new
         → Licensed start new.history.entries new.history.froms (unfinished_from 0 new.memory.actors) }
+{
+    each_call_has_one_reply();
+    tables_stay_well_formed();
+    rows_are_within_limits();
+    holders_have_rows();
+}
+
+/// A law: after a step the group of each key that waits for an actor's gc is there.
+pub fn steps_keep_groups_of_queues<D: Disk, T: Tells>()
+    ensures { (face : DiskFace D) (start : Table) (a : ℕ) (old new : World D) → Invariant T.tells start old → Step face T.tells a old new
+        → (b : ℕ) → AllByRecursion (λ (key : Key). group_number key < length new.memory.groups) (actor_at new.memory b).queue }
 {
     each_call_has_one_reply();
     tables_stay_well_formed();

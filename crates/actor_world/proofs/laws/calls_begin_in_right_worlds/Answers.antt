@@ -1,5 +1,4 @@
 use Rattle.actor_world.proofs.Begins.{begin_kept}
-use Rattle.actor_world.proofs.TurnsFound.{Laws}
 use Rattle.actor_world.proofs.laws.calls_begin_in_right_worlds.Goals as goal
 
 pub returns : goal.returns

@@ -1,5 +1,4 @@
 use Rattle.actor_world.proofs.EntrySteps.{ended_by_step}
-use Rattle.actor_world.proofs.TurnsFound.{Laws}
 use Rattle.actor_world.proofs.Within.{within}
 use Rattle.actor_world.proofs.laws.ended_calls_have_one_entry.Goals as goal
 

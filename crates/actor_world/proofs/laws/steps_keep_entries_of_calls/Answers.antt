@@ -4,7 +4,6 @@ use Rattle.actor_world.specs.Caches.{actor_at}
 use Rattle.actor_world.specs.Invariant.{HasEntry, reply_at}
 use Rattle.actor_world.proofs.EntrySteps.{entries_kept}
 use Rattle.actor_world.proofs.StepTurns.{by_turn}
-use Rattle.actor_world.proofs.TurnsFound.{Laws}
 use Rattle.actor_world.proofs.Within.{within}
 use Rattle.actor_world.proofs.laws.steps_keep_entries_of_calls.Goals as goal
 

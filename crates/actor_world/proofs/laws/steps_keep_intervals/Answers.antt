@@ -1,7 +1,6 @@
 use Rattle.actor_world.specs.Licence.{Interval}
 use Rattle.actor_world.proofs.ShapeSteps.{intervals_kept}
 use Rattle.actor_world.proofs.StepTurns.{by_turn}
-use Rattle.actor_world.proofs.TurnsFound.{Laws}
 use Rattle.actor_world.proofs.Within.{within}
 use Rattle.actor_world.proofs.laws.steps_keep_intervals.Goals as goal
 

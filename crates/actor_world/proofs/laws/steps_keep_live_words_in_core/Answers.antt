@@ -2,7 +2,6 @@ use Rattle.std.proofs.Common.{ℕ}
 use Rattle.actor_world.specs.Caches.{slot_at}
 use Rattle.actor_world.proofs.Effects.{IsCore, effect_core, effect_of}
 use Rattle.actor_world.proofs.StepTurns.{by_turn}
-use Rattle.actor_world.proofs.TurnsFound.{Laws}
 use Rattle.actor_world.proofs.Within.{within}
 use Rattle.actor_world.proofs.laws.steps_keep_live_words_in_core.Goals as goal
 

@@ -1,5 +1,4 @@
 use Rattle.actor_world.proofs.JobSteps.{job_kept}
-use Rattle.actor_world.proofs.TurnsFound.{Laws}
 use Rattle.actor_world.proofs.laws.steps_keep_the_job.Goals as goal
 
 pub returns : goal.returns

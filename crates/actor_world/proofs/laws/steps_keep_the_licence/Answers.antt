@@ -2,7 +2,6 @@ use Rattle.actor_world.specs.Licence.{Licensed}
 use Rattle.actor_world.specs.Invariant.{unfinished_from}
 use Rattle.actor_world.proofs.LicenceSteps.{licence_kept}
 use Rattle.actor_world.proofs.StepTurns.{by_turn}
-use Rattle.actor_world.proofs.TurnsFound.{Laws}
 use Rattle.actor_world.proofs.Within.{within}
 use Rattle.actor_world.proofs.laws.steps_keep_the_licence.Goals as goal
 

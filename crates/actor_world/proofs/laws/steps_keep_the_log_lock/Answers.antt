@@ -1,5 +1,4 @@
 use Rattle.actor_world.proofs.LogLock.{log_lock_kept}
-use Rattle.actor_world.proofs.TurnsFound.{Laws}
 use Rattle.actor_world.proofs.laws.steps_keep_the_log_lock.Goals as goal
 
 pub returns : goal.returns

@@ -1,9 +1,7 @@
-use Rattle.std.proofs.Common.{refl}
 use Rattle.actor_world.specs.Invariant.{IsShaped}
 use Rattle.actor_world.proofs.Effects.{effect_actors, effect_of, effect_shape}
 use Rattle.actor_world.proofs.ShapeSteps.{shape_kept}
 use Rattle.actor_world.proofs.StepTurns.{by_turn}
-use Rattle.actor_world.proofs.TurnsFound.{Laws}
 use Rattle.actor_world.proofs.Within.{within}
 use Rattle.actor_world.proofs.laws.steps_keep_the_shape.Goals as goal
 

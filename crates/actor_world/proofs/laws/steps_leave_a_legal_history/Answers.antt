@@ -1,7 +1,6 @@
 use Rattle.life_table.specs.History.{LegalHistory}
 use Rattle.actor_world.proofs.LegalSteps.{legal_kept}
 use Rattle.actor_world.proofs.StepTurns.{by_turn}
-use Rattle.actor_world.proofs.TurnsFound.{Laws}
 use Rattle.actor_world.proofs.Within.{within}
 use Rattle.actor_world.proofs.laws.steps_leave_a_legal_history.Goals as goal
 

@@ -1,4 +1,4 @@
-use Rattle.std.proofs.Common.{◌≡◌, ◌<◌, ℕ, List, length, subst, sym}
+use Rattle.std.proofs.Common.{◌<◌, ℕ, List, length, subst, sym}
 use Rattle.life_table.specs.declared.table.Table.{Table}
 use Rattle.actor_world.specs.declared.memory.Actor.{Actor}
 use Rattle.actor_world.specs.Caches.{with_actor}
@@ -8,7 +8,6 @@ use Rattle.actor_world.proofs.Locks.{lock_turn, locks_kept}
 use Rattle.actor_world.proofs.Turns.{after_turn}
 use Rattle.actor_world.proofs.WordsKept.{told_table, word_facts, words_kept}
 use Rattle.actor_world.proofs.StepTurns.{by_turn}
-use Rattle.actor_world.proofs.TurnsFound.{Laws}
 use Rattle.actor_world.proofs.Within.{within}
 use Rattle.actor_world.proofs.laws.steps_leave_no_word_that_lies.Goals as goal
 
