@@ -13,3 +13,9 @@ mod disks;
 mod recoveries;
 #[cfg(test)]
 mod rings;
+#[cfg(test)]
+mod store_faults;
+#[cfg(test)]
+mod store_stops;
+#[cfg(test)]
+mod stores;
