@@ -8,21 +8,16 @@ use Rattle.thin_run.specs.declared.types.Status.{Status}
 use Rattle.thin_run.specs.declared.types.Status.TheVariants as status
 use Rattle.thin_run.specs.declared.types.MountRecord.{MountRecord}
 use Rattle.thin_run.specs.declared.types.Said.{Said}
-use Rattle.life_cli.specs.Form.{IsMake, IsMade, IsSteps, made_geometry}
-use Rattle.life_cli.specs.Making.{EndsMake, RunsMake}
+use Rattle.life_cli.specs.Form.{IsMake, IsMade, IsOnImage, made_geometry}
+use Rattle.life_cli.specs.Making.{RunsMake}
 use Rattle.life_cli.specs.Outcome.{IsEarly, IsGiven, Yields}
 use Rattle.life_cli.specs.Outside.{ImagesSeen}
 
--- no words are in both forms
-pub one_form : (words : List (String Global)) (path other : List ℕ) (g : Geometry) → IsMake words path g → IsSteps words other → ⊥
-one_form words path other g make steps =
-    let same : codes "make" ∷ path ∷ decimal g.groups ∷ decimal g.blocks ∷ decimal g.ring ∷ [] ≡ codes "steps" ∷ other ∷ [] = sym make.0 ∙ steps.0 in
-    absurd cc
-
--- words of a script's run name one path
-pub at_path : (P : List ℕ → Type 0) (words : List (String Global)) (path other : List ℕ) → IsSteps words path → IsSteps words other → P path → P other
-at_path P words path other steps again holds =
-    let same : codes "steps" ∷ path ∷ [] ≡ codes "steps" ∷ other ∷ [] = sym steps.0 ∙ again.0 in
+-- words that name an image name one path
+pub at_path : (P : List ℕ → Type 0) (words : List (String Global)) (word path other : List ℕ) → IsOnImage words word path → IsOnImage words word other
+    → P path → P other
+at_path P words word path other first again holds =
+    let same : word ∷ path ∷ [] ≡ word ∷ other ∷ [] = sym first.0 ∙ again.0 in
     let paths : path ≡ other = cc in
     subst P paths holds
 
@@ -52,10 +47,6 @@ pub own_status : (result ended x : Status) → Yields result ended → (status.S
 own_status result ended x (inl e) sink memory is = sym e ∙ is
 own_status result ended x (inr (inl e)) sink memory is = absurd (sink (sym e ∙ is))
 own_status result ended x (inr (inr e)) sink memory is = absurd (memory (sym e ∙ is))
-
--- a make ends in no other way when its output is written
-pub ends_make : (result ended x : Status) → EndsMake ended → Yields result ended → (status.SinkFault ≡ x → ⊥) → (status.NoMemory ≡ x → ⊥) → result ≡ x → EndsMake x
-ends_make result ended x ends yields sink memory is = subst EndsMake (own_status result ended x yields sink memory is) ends
 
 -- the same of what is told in another way
 pub RunsMake-told : {I D : Type 0} (seen : ImagesSeen I D) (path : List ℕ) (g : Geometry) (images images_after : I) (own : Status) (disk disk' : Option D)

@@ -13,9 +13,17 @@ abbrev pub IsPath : List ℕ → Type 0
 IsPath [] = ⊥
 IsPath (first ∷ rest) = first ≡ 45 → ⊥
 
+-- the words are this one and a path
+abbrev pub IsOnImage : List (String Global) → List ℕ → List ℕ → Type 0
+IsOnImage words word path = (map string_bytes words ≡ word ∷ path ∷ []) × IsPath path
+
 -- the words are `steps` and this path
 abbrev pub IsSteps : List (String Global) → List ℕ → Type 0
-IsSteps words path = (map string_bytes words ≡ codes "steps" ∷ path ∷ []) × IsPath path
+IsSteps words path = IsOnImage words (codes "steps") path
+
+-- the words are `check` and this path
+abbrev pub IsCheck : List (String Global) → List ℕ → Type 0
+IsCheck words path = IsOnImage words (codes "check") path
 
 -- what `make` gives an image: its uuid has the bytes 0 to 15
 abbrev pub made_geometry : ℕ → ℕ → ℕ → Geometry
@@ -46,9 +54,11 @@ IsMake words path g =
 -- the words are in this form
 abbrev pub IsForm : List (String Global) → Form → Type 0
 IsForm words (form.Steps path) = IsSteps words path.now
+IsForm words (form.Check path) = IsCheck words path.now
 IsForm words (form.Make path g) = IsMake words path.now g
 
 -- the words are in no form
 pub record IsNoForm (words : List (String Global)) : Type 0 where
   pub no_steps : (path : List ℕ) → IsSteps words path → ⊥
+  pub no_check : (path : List ℕ) → IsCheck words path → ⊥
   pub no_make : (path : List ℕ) (g : Geometry) → IsMake words path g → ⊥

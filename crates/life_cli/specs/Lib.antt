@@ -1,3 +1,4 @@
+pub mod Checking
 pub mod Form
 pub mod Input
 pub mod Making

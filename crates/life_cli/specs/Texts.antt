@@ -15,6 +15,8 @@ use Rattle.thin_run.specs.declared.types.Entry.{Entry}
 use Rattle.thin_run.specs.declared.types.MountRecord.{MountRecord}
 use Rattle.thin_run.specs.declared.types.Status.{Status}
 use Rattle.thin_run.specs.declared.types.Status.TheVariants as status
+use Rattle.geometry.specs.declared.shape.Geometry.{Geometry}
+use Rattle.life_cli.specs.declared.checking.Numbers.{Numbers}
 
 -- a handle: number.generation
 abbrev pub handle_text : Key → List ℕ
@@ -66,6 +68,8 @@ status_line status.ScriptTooLong = codes "script too long" ++ (10 ∷ [])
 status_line status.OpenFault = codes "open fault" ++ (10 ∷ [])
 status_line status.SourceFault = codes "source fault" ++ (10 ∷ [])
 status_line status.SinkFault = []
+status_line (status.Damaged rule sector) = codes "damaged rule " ++ (decimal rule ++ (codes " sector " ++ (decimal sector ++ (10 ∷ []))))
+status_line status.ReadFault = codes "read fault" ++ (10 ∷ [])
 status_line status.WriteFault = codes "write fault" ++ (10 ∷ [])
 status_line status.FlushFault = codes "flush fault" ++ (10 ∷ [])
 status_line status.NoMemory = codes "no memory" ++ (10 ∷ [])
@@ -78,18 +82,49 @@ run_lines mounts said ended = answer_lines mounts said
 abbrev pub made_line : ℕ → List ℕ
 made_line sectors = codes "made " ++ (decimal sectors ++ (codes " sectors" ++ (10 ∷ [])))
 
--- the lines of a make: none, where it did not end well
+-- lines that are written where the run ended well, and else none
+abbrev pub where_good : List ℕ → Status → List ℕ
+where_good lines status.Good = lines
+where_good lines status.Usage = []
+where_good lines (status.ScriptFault line rule) = []
+where_good lines status.ScriptTooLong = []
+where_good lines status.OpenFault = []
+where_good lines status.SourceFault = []
+where_good lines status.SinkFault = []
+where_good lines (status.Damaged rule sector) = []
+where_good lines status.ReadFault = []
+where_good lines status.WriteFault = []
+where_good lines status.FlushFault = []
+where_good lines status.NoMemory = []
+
+-- the lines of a make
 abbrev pub make_lines : ℕ → Status → List ℕ
-make_lines sectors status.Good = made_line sectors
-make_lines sectors status.Usage = []
-make_lines sectors (status.ScriptFault line rule) = []
-make_lines sectors status.ScriptTooLong = []
-make_lines sectors status.OpenFault = []
-make_lines sectors status.SourceFault = []
-make_lines sectors status.SinkFault = []
-make_lines sectors status.WriteFault = []
-make_lines sectors status.FlushFault = []
-make_lines sectors status.NoMemory = []
+make_lines sectors ended = where_good (made_line sectors) ended
+
+-- how many groups, and blocks of each
+abbrev pub groups_text : Geometry → List ℕ
+groups_text g = codes "groups " ++ (decimal g.groups ++ (codes " blocks " ++ decimal g.blocks))
+
+-- the sectors of the ring, and how many chunks
+abbrev pub ring_text : ℕ → ℕ → List ℕ
+ring_text ring chunks = codes " ring " ++ (decimal ring ++ (codes " chunks " ++ decimal chunks))
+
+-- how many inodes are in use, and how many of them without links
+abbrev pub inodes_text : ℕ → ℕ → List ℕ
+inodes_text inodes orphans = codes " inodes " ++ (decimal inodes ++ (codes " orphans " ++ (decimal orphans ++ (10 ∷ []))))
+
+-- the line of the numbers of a sound image
+abbrev pub numbers_line : Numbers → List ℕ
+numbers_line n = groups_text n.geometry ++ (ring_text n.geometry.ring n.tables.chunks ++ inodes_text n.tables.inodes n.tables.orphans)
+
+-- the lines of a sound image, where its numbers were found
+abbrev pub found_lines : Option Numbers → List ℕ
+found_lines None = []
+found_lines (Some n) = codes "sound" ++ (10 ∷ numbers_line n)
+
+-- the lines of a check
+abbrev pub check_lines : Option Numbers → Status → List ℕ
+check_lines found ended = where_good (found_lines found) ended
 
 -- all that is written of a run that ended so
 abbrev pub output_of : (Status → List ℕ) → Status → List ℕ
@@ -104,6 +139,8 @@ exit_status status.ScriptTooLong = 4
 exit_status status.OpenFault = 5
 exit_status status.SourceFault = 6
 exit_status status.SinkFault = 7
+exit_status (status.Damaged rule sector) = 8
+exit_status status.ReadFault = 9
 exit_status status.WriteFault = 10
 exit_status status.FlushFault = 11
 exit_status status.NoMemory = 13

@@ -3,14 +3,16 @@
 ghost use Rattle.std.specs.Prelude.{◌≡◌, ◌≢◌, ◌≤◌, [], ℕ, List, IfOk, IsNone, string_bytes};
 ghost use Rattle.life_ports.specs.Faults.{Rose};
 ghost use Rattle.geometry.specs.Shape.{IsGeometry};
+ghost use Rattle.life_cli.specs.Checking.{EndsCheck};
 ghost use Rattle.life_cli.specs.Making.{EndsMake, sectors_of};
 ghost use Rattle.life_cli.specs.Outcome.{IsWritten, Yields};
-ghost use Rattle.life_cli.specs.Texts.{make_lines, output_of, run_lines};
+ghost use Rattle.life_cli.specs.Texts.{check_lines, make_lines, output_of, run_lines};
 ghost use Rattle.thin_run.specs.declared.types.Status.{Status};
 ghost use Rattle.thin_run.specs.declared.types.Status.TheVariants as status;
 
+use crate::checking::Numbers;
 use crate::output::write_whole;
-use crate::texts::{no_memory_line, print, print_made};
+use crate::texts::{no_memory_line, print, print_check, print_made};
 use geometry::{Geometry, image_sectors};
 use life_ports::{Failed, NoMemory, Sink};
 use std::alloc::Global;
@@ -111,5 +113,25 @@ pub(crate) fn write_make<D, K: Sink>(
     ensures said { result.said.items ≡ ended.said.items }
 {
     let printed = print_made(alloc, image_sectors(g), &ended.status);
+    write_out(printed, ended, out)
+}
+
+/// Writes what the check of an image tells, with what it found where that is sound.
+pub(crate) fn write_check<D, K: Sink>(
+    alloc: Global,
+    found: &Option<Numbers>,
+    ended: Ended<D>,
+    out: &mut K,
+) -> Ended<D>
+    requires ends { EndsCheck ended.status }
+    ensures status { Yields result.status ended.status }
+    ensures output { IsWritten (K.bytes_held out.old) (K.bytes_held out.new) (check_lines found.now) ended.status result.status }
+    ensures sink_fault { result.status ≡ status.SinkFault → Rose (K.fault_count out.old) (K.fault_count out.new) }
+    ensures never_falls { K.fault_count out.old ≤ K.fault_count out.new }
+    ensures disk { result.disk ≡ ended.disk }
+    ensures mounts { result.mounts.items ≡ ended.mounts.items }
+    ensures said { result.said.items ≡ ended.said.items }
+{
+    let printed = print_check(alloc, found, &ended.status);
     write_out(printed, ended, out)
 }

@@ -4,7 +4,7 @@ ghost use Rattle.std.specs.Prelude.{◌≡◌, ◌↔◌, ◌<◌, ◌^◌, ℕ,
 ghost use Rattle.std.specs.Fmt.{decimal};
 ghost use Rattle.geometry.specs.declared.shape.Geometry.{Geometry};
 ghost use Rattle.geometry.specs.Shape.{IsGeometry};
-ghost use Rattle.life_cli.specs.Form.{IsForm, IsMake, IsNoForm, IsPath, IsEncoded, IsSteps, made_geometry};
+ghost use Rattle.life_cli.specs.Form.{IsForm, IsMake, IsNoForm, IsCheck, IsPath, IsEncoded, IsSteps, made_geometry};
 
 use geometry::Geometry;
 use life_limits::{MAX_BLOCKS, MAX_GROUPS, MAX_RING, MIN_BLOCKS, MIN_RING, VERSION};
@@ -13,6 +13,7 @@ use life_table::read_number;
 /// What the program is to do, with the image at this path.
 pub(crate) enum Form<'a> {
     Steps { path: &'a str },
+    Check { path: &'a str },
     Make { path: &'a str, geometry: Geometry },
 }
 
@@ -32,6 +33,18 @@ fn steps_path(words: &[String]) -> Option<&str>
 {
     match words {
         [form, image] if form.as_str() == "steps" && is_path(image.as_str()) => Some(
+            image.as_str(),
+        ),
+        _ => None,
+    }
+}
+
+/// The path of the image, where the words are `check` and a path.
+fn check_path(words: &[String]) -> Option<&str>
+    ensures { MatchOption result ((path : List ℕ) → IsCheck words.now path → ⊥) (λ path. IsCheck words.now path.now) }
+{
+    match words {
+        [form, image] if form.as_str() == "check" && is_path(image.as_str()) => Some(
             image.as_str(),
         ),
         _ => None,
@@ -97,6 +110,9 @@ pub(crate) fn read_form(words: &[String]) -> Option<Form<'_>>
 {
     if let Some(path) = steps_path(words) {
         return Some(Form::Steps { path });
+    }
+    if let Some(path) = check_path(words) {
+        return Some(Form::Check { path });
     }
     match make_parts(words) {
         Some((path, geometry)) => Some(Form::Make { path, geometry }),

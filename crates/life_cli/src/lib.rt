@@ -1,8 +1,9 @@
-//! The program `life` as a call, `top`: it makes images, and runs scripts over them.
+//! The program `life` as a call, `top`: it makes and checks images, and runs scripts over them.
 //!
-//! `make IMAGE GROUPS BLOCKS RING` makes an image without a file. `steps IMAGE` reads a script, runs its lines over the image, and writes a line for each.
+//! `make IMAGE GROUPS BLOCKS RING` makes an image without a file. `check IMAGE` tells whether an image is sound, and else its first damage. `steps IMAGE` reads a script, runs its lines over the image, and writes a line for each.
 #![tactic(auto)]
 
+mod checking;
 mod ending;
 mod form;
 mod input;
@@ -13,9 +14,10 @@ mod steps;
 mod texts;
 mod top_call;
 
+pub use checking::{Checked, Numbers, run_check};
 pub use making::run_make;
 pub use output::write_whole;
 pub use steps::run_steps;
-pub use texts::{exit_code, print, print_made};
+pub use texts::{exit_code, print, print_check, print_made};
 pub use thin_run::{Ended, Status};
 pub use top_call::top;

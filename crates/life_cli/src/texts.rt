@@ -1,9 +1,11 @@
 // What is written of a run, and its exit status.
 
-ghost use Rattle.std.specs.Prelude.{◌≡◌, ◌++◌, ◌∷◌, [], IfOk, OnOk, string_bytes};
-ghost use Rattle.life_cli.specs.Texts.{entry_at, entry_text, event_text, exit_status, line_reply_text, make_lines, output_of, reply_text, run_lines, said_text, status_line};
+ghost use Rattle.std.specs.Prelude.{◌≡◌, ◌++◌, ◌∷◌, [], IfOk, OnOk, codes, string_bytes};
+ghost use Rattle.life_cli.specs.Texts.{check_lines, entry_at, entry_text, event_text, exit_status, found_lines, groups_text, inodes_text, line_reply_text, make_lines, numbers_line, output_of, reply_text, ring_text, run_lines, said_text, status_line};
 ghost use Rattle.thin_run.specs.declared.types.Status.TheVariants as status;
 
+use crate::checking::Numbers;
+use geometry::Geometry;
 use life_ports::NoMemory;
 use std::alloc::{AllocError, Global};
 use thin_run::{Entry, Event, LineReply, MountRecord, Reply, Said, Status};
@@ -87,6 +89,10 @@ fn push_status(text: &mut String, ended: &Status) -> Result<(), AllocError>
         Status::ScriptTooLong => push_text(text, "script too long\n"),
         Status::OpenFault => push_text(text, "open fault\n"),
         Status::SourceFault => push_text(text, "source fault\n"),
+        Status::Damaged { rule, sector } => {
+            write!(text, "damaged rule {rule} sector {sector}\n")
+        }
+        Status::ReadFault => push_text(text, "read fault\n"),
         Status::WriteFault => push_text(text, "write fault\n"),
         Status::FlushFault => push_text(text, "flush fault\n"),
         Status::NoMemory => push_text(text, no_memory_line()),
@@ -122,6 +128,73 @@ pub fn print_made(alloc: Global, sectors: u64, ended: &Status) -> Result<String,
     Ok(text)
 }
 
+fn push_groups(text: &mut String, g: &Geometry) -> Result<(), AllocError>
+    ensures { OnOk result (string_bytes text.new ≡ string_bytes text.old ++ groups_text g.now) }
+{
+    let groups = g.groups;
+    let blocks = g.blocks;
+    write!(text, "groups {groups} blocks {blocks}")
+}
+
+fn push_ring(text: &mut String, ring: u32, chunks: u64) -> Result<(), AllocError>
+    ensures { OnOk result (string_bytes text.new ≡ string_bytes text.old ++ ring_text ring chunks) }
+{
+    write!(text, " ring {ring} chunks {chunks}")
+}
+
+fn push_inodes(text: &mut String, inodes: u64, orphans: u64) -> Result<(), AllocError>
+    ensures { OnOk result (string_bytes text.new ≡ string_bytes text.old ++ inodes_text inodes orphans) }
+{
+    write!(text, " inodes {inodes} orphans {orphans}\n")
+}
+
+fn push_ring_and_inodes(text: &mut String, n: &Numbers) -> Result<(), AllocError>
+    ensures { OnOk result (string_bytes text.new ≡ string_bytes text.old
+        ++ (ring_text n.now.geometry.ring n.now.tables.chunks ++ inodes_text n.now.tables.inodes n.now.tables.orphans)) }
+{
+    push_ring(text, n.geometry.ring, n.tables.chunks)?;
+    push_inodes(text, n.tables.inodes, n.tables.orphans)
+}
+
+fn push_numbers(text: &mut String, n: &Numbers) -> Result<(), AllocError>
+    ensures { OnOk result (string_bytes text.new ≡ string_bytes text.old ++ numbers_line n.now) }
+{
+    push_groups(text, &n.geometry)?;
+    push_ring_and_inodes(text, n)
+}
+
+fn push_sound(text: &mut String, n: &Numbers) -> Result<(), AllocError>
+    ensures { OnOk result (string_bytes text.new ≡ string_bytes text.old ++ (codes "sound" ++ (10 ∷ numbers_line n.now))) }
+{
+    push_text(text, "sound\n")?;
+    push_numbers(text, n)
+}
+
+fn push_found(text: &mut String, found: &Option<Numbers>) -> Result<(), AllocError>
+    ensures { OnOk result (string_bytes text.new ≡ string_bytes text.old ++ found_lines found.now) }
+{
+    match found {
+        Some(numbers) => push_sound(text, numbers),
+        None => Ok(()),
+    }
+}
+
+/// What is written of a check that ended so, and that found these numbers where the image is sound.
+pub fn print_check(
+    alloc: Global,
+    found: &Option<Numbers>,
+    ended: &Status,
+) -> Result<String, NoMemory>
+    ensures { IfOk result (λ text. string_bytes text ≡ output_of (check_lines found.now) ended.now) }
+{
+    let mut text = String::new(alloc);
+    if let Status::Good = *ended {
+        push_found(&mut text, found)?;
+    }
+    push_status(&mut text, ended)?;
+    Ok(text)
+}
+
 /// The line that tells of running out of memory, which takes none.
 pub(crate) fn no_memory_line() -> &'static str
     ensures { result.now ≡ status_line status.NoMemory }
@@ -141,6 +214,8 @@ pub fn exit_code(ended: &Status) -> u8
         Status::OpenFault => 5,
         Status::SourceFault => 6,
         Status::SinkFault => 7,
+        Status::Damaged { .. } => 8,
+        Status::ReadFault => 9,
         Status::WriteFault => 10,
         Status::FlushFault => 11,
         Status::NoMemory => 13,

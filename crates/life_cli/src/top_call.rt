@@ -1,16 +1,19 @@
 // The whole of a run, from the words of the command line to the bytes that are written.
 
-ghost use Rattle.std.specs.Prelude.{◌≡◌, ℕ, List, [], IsSome, MatchOption};
+ghost use Rattle.std.specs.Prelude.{◌≡◌, ℕ, List, [], Option, IsSome, MatchOption};
 ghost use Rattle.geometry.specs.declared.shape.Geometry.{Geometry};
 ghost use Rattle.life_ports.specs.Faults.{Rose};
-ghost use Rattle.life_cli.specs.Form.{IsMake, IsNoForm, IsSteps};
+ghost use Rattle.life_cli.specs.Checking.{RunsCheck};
+ghost use Rattle.life_cli.specs.declared.checking.Numbers.{Numbers};
+ghost use Rattle.life_cli.specs.Form.{IsCheck, IsMake, IsNoForm, IsSteps};
 ghost use Rattle.life_cli.specs.Making.{RunsMake, sectors_of};
 ghost use Rattle.life_cli.specs.Outcome.{EndsWith, IsEarly, IsGiven, RunsNothing};
 ghost use Rattle.life_cli.specs.Steps.{RunsSteps};
-ghost use Rattle.life_cli.specs.Texts.{make_lines, run_lines};
+ghost use Rattle.life_cli.specs.Texts.{check_lines, make_lines, run_lines};
 ghost use Rattle.thin_run.specs.declared.types.Status.TheVariants as status;
 
-use crate::ending::{ended_early, write_make, write_run};
+use crate::checking::{Checked, run_check};
+use crate::ending::{ended_early, write_check, write_make, write_run};
 use crate::form::{Form, read_form};
 use crate::making::run_make;
 use crate::steps::run_steps;
@@ -21,7 +24,7 @@ use thin_run::{Ended, Status};
 
 /// Runs the program's words over these images, a script and a sink.
 ///
-/// The words are `steps` and the path of an image, or `make`, a path and the groups, the blocks of a group and the sectors of the ring of an image that is to
+/// The words are `steps` and the path of an image, `check` and such a path, or `make`, a path and the groups, the blocks of a group and the sectors of the ring of an image that is to
 /// be made there. The output is written once, at the end. `make` reads no script. A disk that was given is handed back.
 pub fn top<I: Images, S: Source, K: Sink>(
     alloc: Global,
@@ -56,6 +59,18 @@ pub fn top<I: Images, S: Source, K: Sink>(
         })
         path g images.old images.new own result.disk result.mounts.items result.said.items)
         (make_lines (sectors_of g)) (K.bytes_held out.old) (K.bytes_held out.new) result.status }
+    ensures check { (path : List ℕ) → IsCheck words.now path → (found : Option Numbers) × EndsWith (λ own. RunsCheck
+        (record {
+          given = I.given;
+          faults = I.fault_count;
+          image_at = I.image_at;
+          known = I.Disk.known;
+          cells = I.Disk.cells;
+          sectors = I.Disk.sector_count;
+          disk_faults = I.Disk.fault_count;
+        })
+        path images.old images.new own result.disk found result.mounts.items result.said.items)
+        (check_lines found) (K.bytes_held out.old) (K.bytes_held out.new) result.status }
     ensures no_form { IsNoForm words.now → EndsWith (λ own. RunsNothing images.old images.new
         own result.disk result.mounts.items result.said.items)
         (run_lines [] []) (K.bytes_held out.old) (K.bytes_held out.new) result.status }
@@ -82,6 +97,10 @@ pub fn top<I: Images, S: Source, K: Sink>(
                 run_make(alloc, path, &geometry, images),
                 out,
             )
+        }
+        Some(Form::Check { path }) => {
+            let Checked { ended, found } = run_check(alloc, path, images);
+            write_check(alloc, &found, ended, out)
         }
         None => write_run(alloc, ended_early(alloc, Status::Usage), out),
     }

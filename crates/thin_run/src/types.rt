@@ -99,6 +99,10 @@ pub enum Status {
     OpenFault,
     SourceFault,
     SinkFault,
+    /// A rule of a sound image is broken: the least by its number, and the least sector at which it is.
+    Damaged { rule: u32, sector: u64 },
+    /// A read of the disk that was given failed.
+    ReadFault,
     /// A write of the disk that was given failed.
     WriteFault,
     /// A flush of the disk that was given failed.

@@ -1,14 +1,8 @@
-use Rattle.std.proofs.Common.{◌≡◌, ◌<◌, ◌≤◌, ℕ, List, [], ◌∷◌, String, Global, length, get_or, map, string_bytes, codes, sym, ap, ◌∙◌, subst, arith}
+use Rattle.std.proofs.Common.{◌≡◌, ℕ, List, [], ◌∷◌, String, Global, map, string_bytes, codes, sym, ap, ◌∙◌, subst}
 use Rattle.std.proofs.lemmas.Slice.Eq.{bytes_eq-Decides}
 use Rattle.life_cli.specs.Form.{IsPath}
+use Rattle.life_cli.proofs.Words.{pair_of}
 use Rattle.life_cli.proofs.form.steps_path.Goals as goal
-
--- a list of two is made of its two elements
-pair_of : {X : Type 0} (xs : List X) (a b : X) → 2 ≤ length xs → length xs < 3 → a ≡ get_or xs 0 a → b ≡ get_or xs 1 b → xs ≡ a ∷ b ∷ []
-pair_of [] a b least most first second = absurd (omega arith)
-pair_of (x ∷ []) a b least most first second = absurd (omega arith)
-pair_of (x ∷ y ∷ []) a b least most first second = cc
-pair_of (x ∷ y ∷ z ∷ xs) a b least most first second = absurd (omega arith)
 
 pub returns-in-len2 : goal.returns-in-len2
 returns-in-len2 c =

@@ -1,11 +1,14 @@
-use Rattle.std.proofs.Common.{ℕ, List, refl}
+use Rattle.std.proofs.Common.{ℕ, List, Option, codes, refl}
 use Rattle.geometry.specs.declared.shape.Geometry.{Geometry}
 use Rattle.thin_run.specs.declared.types.Status.{Status}
+use Rattle.life_cli.specs.Checking.{RunsCheck}
 use Rattle.life_cli.specs.Making.{RunsMake, sectors_of}
+use Rattle.life_cli.specs.declared.checking.Numbers.{Numbers}
 use Rattle.life_cli.specs.Outcome.{EndsWith}
 use Rattle.life_cli.specs.Outside.{ImagesSeen, ScriptSeen}
 use Rattle.life_cli.specs.Steps.{RunsSteps}
-use Rattle.life_cli.specs.Texts.{make_lines, run_lines}
+use Rattle.life_cli.specs.Texts.{check_lines, make_lines, run_lines}
+use Rattle.life_cli.proofs.Checkings.{RunsCheck-told, check_back, check_disk}
 use Rattle.life_cli.proofs.Makings.{RunsMake-told, at_one, at_path, make_back, make_disk}
 use Rattle.life_cli.proofs.Stepping.{RunsSteps-told, steps_back, steps_disk, steps_usage}
 use Rattle.life_cli.proofs.top_call.top.Goals as goal
@@ -28,7 +31,7 @@ returns-in-Some-Steps-clause-steps g c path is =
     at_path
     (λ (p : List ℕ). EndsWith (λ (own : Status). RunsSteps seen source p c.args.images.now c.run_steps.new.images c.args.script.now c.run_steps.new.script
     own ended.disk ended.mounts.items ended.said.items) (run_lines ended.mounts.items ended.said.items) (g.K.Sink.bytes_held c.args.out.now)
-    (g.K.Sink.bytes_held c.write_run.new.out) ended.status) c.args.words.now c.in-Some-Steps.path.now path (rw c.in-Some-Steps.field-0-is at c.in-Some-Steps.ensures) is
+    (g.K.Sink.bytes_held c.write_run.new.out) ended.status) c.args.words.now (codes "steps") c.in-Some-Steps.path.now path (rw c.in-Some-Steps.field-0-is at c.in-Some-Steps.ensures) is
     (record {
       own = run.status;
       promised = RunsSteps-told seen source c.in-Some-Steps.path.now c.args.images.now c.run_steps.new.images c.args.script.now c.run_steps.new.script
@@ -149,3 +152,73 @@ returns-in-Some-Make-clause-disk g c good =
     ended.mounts.items ended.said.items
     (RunsMake-told seen c.in-Some-Make.path.now c.in-Some-Make.geometry c.args.images.now c.run_make.new.images run.status run.disk ended.disk
     run.mounts.items ended.mounts.items run.said.items ended.said.items written.disk written.mounts written.said c.run_make.ensures) written.status good
+
+pub returns-in-Some-Check-clause-check : goal.returns-in-Some-Check-clause-check
+returns-in-Some-Check-clause-check g c path is =
+    let seen : ImagesSeen g.row.I.Denot g.row.I-Disk.Denot = record {
+      given = g.I.Images.given;
+      faults = g.I.Images.fault_count;
+      image_at = g.I.Images.image_at;
+      known = g.I.Disk.Disk.known;
+      cells = g.I.Disk.Disk.cells;
+      sectors = g.I.Disk.Disk.sector_count;
+      disk_faults = g.I.Disk.Disk.fault_count;
+    } in
+    let run = c.run_check-ended.result.ended in
+    let found = c.run_check-ended.result.found in
+    let ended = c.write_check.result in
+    let written = c.write_check.ensures in
+    at_path
+    (λ (p : List ℕ). (it : Option Numbers) × EndsWith (λ (own : Status). RunsCheck seen p c.args.images.now c.run_check-ended.new.images own ended.disk it
+    ended.mounts.items ended.said.items) (check_lines it) (g.K.Sink.bytes_held c.args.out.now) (g.K.Sink.bytes_held c.write_check.new.out) ended.status)
+    c.args.words.now (codes "check") c.in-Some-Check.path.now path (rw c.in-Some-Check.field-0-is at c.in-Some-Check.ensures) is (
+      found,
+      record {
+        own = run.status;
+        promised = RunsCheck-told seen c.in-Some-Check.path.now c.args.images.now c.run_check-ended.new.images run.status run.status run.disk ended.disk
+            found run.mounts.items ended.mounts.items run.said.items ended.said.items refl written.disk written.mounts written.said c.run_check-ended.ensures;
+        yields = written.status;
+        written = written.output;
+      },
+    )
+
+pub returns-in-Some-Check-clause-handed_back : goal.returns-in-Some-Check-clause-handed_back
+returns-in-Some-Check-clause-handed_back g c =
+    let seen : ImagesSeen g.row.I.Denot g.row.I-Disk.Denot = record {
+      given = g.I.Images.given;
+      faults = g.I.Images.fault_count;
+      image_at = g.I.Images.image_at;
+      known = g.I.Disk.Disk.known;
+      cells = g.I.Disk.Disk.cells;
+      sectors = g.I.Disk.Disk.sector_count;
+      disk_faults = g.I.Disk.Disk.fault_count;
+    } in
+    let run = c.run_check-ended.result.ended in
+    let found = c.run_check-ended.result.found in
+    let ended = c.write_check.result in
+    let written = c.write_check.ensures in
+    check_back seen c.args.words.now c.in-Some-Check.path.now c.args.images.now c.run_check-ended.new.images run.status ended.disk found
+    ended.mounts.items ended.said.items (rw c.in-Some-Check.field-0-is at c.in-Some-Check.ensures)
+    (RunsCheck-told seen c.in-Some-Check.path.now c.args.images.now c.run_check-ended.new.images run.status run.status run.disk ended.disk
+    found run.mounts.items ended.mounts.items run.said.items ended.said.items refl written.disk written.mounts written.said c.run_check-ended.ensures)
+
+pub returns-in-Some-Check-clause-disk : goal.returns-in-Some-Check-clause-disk
+returns-in-Some-Check-clause-disk g c good =
+    let seen : ImagesSeen g.row.I.Denot g.row.I-Disk.Denot = record {
+      given = g.I.Images.given;
+      faults = g.I.Images.fault_count;
+      image_at = g.I.Images.image_at;
+      known = g.I.Disk.Disk.known;
+      cells = g.I.Disk.Disk.cells;
+      sectors = g.I.Disk.Disk.sector_count;
+      disk_faults = g.I.Disk.Disk.fault_count;
+    } in
+    let run = c.run_check-ended.result.ended in
+    let found = c.run_check-ended.result.found in
+    let ended = c.write_check.result in
+    let written = c.write_check.ensures in
+    check_disk seen c.in-Some-Check.path.now c.args.images.now c.run_check-ended.new.images run.status ended.status ended.disk found
+    ended.mounts.items ended.said.items
+    (RunsCheck-told seen c.in-Some-Check.path.now c.args.images.now c.run_check-ended.new.images run.status run.status run.disk ended.disk
+    found run.mounts.items ended.mounts.items run.said.items ended.said.items refl written.disk written.mounts written.said c.run_check-ended.ensures)
+    written.status good
