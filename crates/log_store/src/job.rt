@@ -43,6 +43,7 @@ impl<D: Disk> Store<D> {
         requires store { IsStore D.known D.cells D.sector_count self.old }
         ensures goes { Goes D.known D.cells D.sector_count D.moment D.left_since self.old self.new }
         ensures step { IsStep D.known D.cells D.sector_count D.arming D.fault_count result self.old self.new }
+        ensures down { (fault : ℕ) → self.old.stage ≡ Down fault → (result ≡ Err (StoreFault.Down fault)) × (self.new ≡ record self.old { job = Idle }) }
     {
         match self.stage {
             Stage::Down(fault) => {
