@@ -281,7 +281,7 @@ licensed_more start h before after more licensed = record {
 -- ---- the world
 
 -- what is so of an actor looks at no other actor
-due_moved : (made : Call) (t : Table) (m : Memory) (actors : List Actor) (due : Due) → DueHolds made t m due → DueHolds made t (record { actors = actors; groups = m.groups }) due
+pub due_moved : (made : Call) (t : Table) (m : Memory) (actors : List Actor) (due : Due) → DueHolds made t m due → DueHolds made t (record { actors = actors; groups = m.groups }) due
 due_moved made t m actors nothing holds = tt
 due_moved made t m actors (install key) holds =
     (holds.0, record { row_is = holds.1.row_is; opens = holds.1.opens; links = holds.1.links; dead = holds.1.dead; incore = holds.1.incore })

@@ -30,7 +30,7 @@ replay h [] froms = h
 replay h (entry ∷ entries) [] = h
 replay h (entry ∷ entries) (begin ∷ froms) = replay (told entry.actor begin entry.event h) entries froms
 
-after_one : (t u : Table) (event : Event) → Happens t event u → u ≡ after_event t event
+pub after_one : (t u : Table) (event : Event) → Happens t event u → u ≡ after_event t event
 after_one t u (Called made answer) happens = happens.1
 after_one t u (Freed key) happens = happens.1
 

@@ -11,12 +11,12 @@ use Rattle.life_table.specs.Space.{chunk_blocks, inode_blocks, times, used}
 use Rattle.life_table.specs.WellFormed.{IsChunk, IsGroup, IsTable}
 use Rattle.actor_world.proofs.Lists.{all_read, read_past}
 
-times-append : (b : ℕ) (xs ys : List ℕ) → times b (xs ++ ys) ≡ times b xs + times b ys
+pub times-append : (b : ℕ) (xs ys : List ℕ) → times b (xs ++ ys) ≡ times b xs + times b ys
 unfolding times
 times-append b [] ys = omega arith
 times-append b (x ∷ xs) ys = let rest = times-append b xs ys in omega (arith, rest)
 
-times-range : (a n b : ℕ) → a ≤ b → b < a + n → 1 ≤ times b (range_with_len a n)
+pub times-range : (a n b : ℕ) → a ≤ b → b < a + n → 1 ≤ times b (range_with_len a n)
 unfolding times
 times-range a zero b low high = absurd (omega arith)
 times-range a (suc n) b low high =

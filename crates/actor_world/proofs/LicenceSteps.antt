@@ -259,7 +259,7 @@ turn_gc start h begin facts (is_answered call.Home at answer is stands permits) 
 turn_gc start h begin facts (is_answered _ at answer is stands permits) = absurd (false≢true is)
 turn_gc start h begin facts _ = tt
 
-grow_short : (t : Table) (key : Key) (count : ℕ) (o : Option Row) → KeyReplies t o (call.Grow key count) reply.NoSpace → Short t (call.Grow key count)
+pub grow_short : (t : Table) (key : Key) (count : ℕ) (o : Option Row) → KeyReplies t o (call.Grow key count) reply.NoSpace → Short t (call.Grow key count)
 grow_short t key count None permits = absurd permits
 grow_short t key count (Some row) permits = permits
 
@@ -488,7 +488,7 @@ module _ (start : Table) (h : History) (m : Memory) (a : ℕ) (made : Call) (at 
 
 -- ---- the law
 
-queue_of_gc : (t : Table) (q whole : List Key) (made : Call) → made ≡ call.Gc → QueueIsRight (is_gc_call made) t q whole → PartOfQueue t q whole
+pub queue_of_gc : (t : Table) (q whole : List Key) (made : Call) → made ≡ call.Gc → QueueIsRight (is_gc_call made) t q whole → PartOfQueue t q whole
 queue_of_gc t q whole made is right = subst (λ c. QueueIsRight (is_gc_call c) t q whole) is right
 
 by_event : (start : Table) (h : History) (m : Memory) (a : ℕ) (made : Call) (at : Place) (begin : ℕ) (q later : List Key) (next : Option Place) (memory : Memory)

@@ -146,7 +146,7 @@ lies_from : (g : ℕ) (at : Option Place) (made : Call) (begin : ℕ) (q : List 
 lies_from g None made begin q lies = absurd lies
 lies_from g (Some at) made begin q lies = lock_some (lies_in_group at) (group_of_call q made) g lies.0 lies.1
 
-lies_to : (g : ℕ) (at : Option Place) (made : Call) (begin : ℕ) (q : List Key) → lock_of at made q ≡ Some g → LiesInGroup g (after_turn made begin at q)
+pub lies_to : (g : ℕ) (at : Option Place) (made : Call) (begin : ℕ) (q : List Key) → lock_of at made q ≡ Some g → LiesInGroup g (after_turn made begin at q)
 lies_to g None made begin q is = absurd (none-some g is)
 lies_to g (Some at) made begin q is =
     elim (lies_in_group at) as (λ b. lock_in b (group_of_call q made) ≡ Some g → (b ≡ true) × (group_of_call q made ≡ Some g)) [

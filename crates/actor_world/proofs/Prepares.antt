@@ -32,7 +32,7 @@ fresh zero i = refl
 fresh (suc n) zero = refl
 fresh (suc n) (suc i) = fresh n i
 
-none_above : (group : Group) (start agino : ℕ) → start ≡ start_of agino → AllByRecursion (λ (later : Chunk). start < later.start) group → inode_in group agino ≡ None
+pub none_above : (group : Group) (start agino : ℕ) → start ≡ start_of agino → AllByRecursion (λ (later : Chunk). start < later.start) group → inode_in group agino ≡ None
 unfolding inode_in
 none_above [] start agino is all = refl
 none_above (chunk ∷ chunks) start agino is all =

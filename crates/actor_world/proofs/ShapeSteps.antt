@@ -48,7 +48,7 @@ size_changed : (t : Table) (key : Key) (o : Option Row) (made : Call) → SameSi
 size_changed t key None made = size_same t
 size_changed t key (Some row) made = size_inode t key.number _
 
-size_made : (t : Table) (g : ℕ) (key : Key) (row : Row) → SameSize t (with_row (prepare t g) key row)
+pub size_made : (t : Table) (g : ℕ) (key : Key) (row : Row) → SameSize t (with_row (prepare t g) key row)
 size_made t g key row =
     let outer = size_inode (prepare t g) key.number _ in
     record { blocks = outer.blocks; groups = outer.groups ∙ set-length t.groups g _ }

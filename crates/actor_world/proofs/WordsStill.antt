@@ -155,7 +155,7 @@ copied_words t m g k right = elim (slots_copied m g k) [
 ]
 
 -- a refusal leaves the table
-refused_same : (t : Table) (made : Call) (key : Key) (answer : Reply) → changer_key made ≡ Some key → changed made answer ≡ false → after_call t made answer ≡ t
+pub refused_same : (t : Table) (made : Call) (key : Key) (answer : Reply) → changer_key made ≡ Some key → changed made answer ≡ false → after_call t made answer ≡ t
 refused_same t (call.Link key) k reply.Done is none = absurd (true≢false none)
 refused_same t (call.Unlink key) k reply.Done is none = absurd (true≢false none)
 refused_same t (call.Cut key count) k reply.Done is none = absurd (true≢false none)
@@ -164,16 +164,16 @@ refused_same t (call.Unlink key) k _ is none = refl
 refused_same t (call.Cut key count) k _ is none = refl
 refused_same t _ k _ is none = absurd (none-some k is)
 
-grow_same : (t : Table) (key : Key) (count : ℕ) (answer : Reply) → changed (call.Grow key count) answer ≡ false → after_call t (call.Grow key count) answer ≡ t
+pub grow_same : (t : Table) (key : Key) (count : ℕ) (answer : Reply) → changed (call.Grow key count) answer ≡ false → after_call t (call.Grow key count) answer ≡ t
 grow_same t key count reply.Done none = absurd (true≢false none)
 grow_same t key count _ none = refl
 
-maker_same : (t : Table) (made : Call) (g : ℕ) → maker_group made ≡ Some g → after_call t made reply.NoInodes ≡ t
+pub maker_same : (t : Table) (made : Call) (g : ℕ) → maker_group made ≡ Some g → after_call t made reply.NoInodes ≡ t
 maker_same t (call.Create h) g is = refl
 maker_same t (call.Tmpfile h) g is = refl
 maker_same t _ g is = absurd (none-some g is)
 
-log_same : (t : Table) (made : Call) (answer : Reply) → is_log_call made ≡ true → after_call t made answer ≡ t
+pub log_same : (t : Table) (made : Call) (answer : Reply) → is_log_call made ≡ true → after_call t made answer ≡ t
 log_same t call.Sync answer is = refl
 log_same t call.Home answer is = refl
 log_same t _ answer is = absurd (false≢true is)

@@ -109,6 +109,11 @@ pub record RowsLeft (start : Table) (entries : List Entry) (t : Table) (g : Opti
 abbrev pub NoneLeft : Table → List Entry → Table → Option ℕ → ℕ → Call → Type 0
 NoneLeft start entries t g begin made = Short t made → RowsLeft start entries t g begin []
 
+-- so do numbers
+abbrev pub NumbersAscend : List ℕ → Type 0
+NumbersAscend [] = ⊤
+NumbersAscend (number ∷ numbers) = AllByRecursion (λ (later : ℕ). number < later) numbers × NumbersAscend numbers
+
 -- what a reclaim has still to look at is in core and clean, in its group
 abbrev pub IsCleanIn : Memory → Option ℕ → ℕ → Type 0
 IsCleanIn m g number = ((slot_at m number).inode ≡ Clean) × (Some (number / GROUP_NUMBERS) ≡ g)
@@ -130,7 +135,7 @@ PlaceKeeps start entries t m queue g begin made place.Answer = NoneLeft start en
 PlaceKeeps start entries t m queue g begin made place.FreeHead = IsSomeAnd (first_key queue) (MayBeFreed t g)
 PlaceKeeps start entries t m queue g begin made place.KillHead = HeadIsPassed t (first_key queue)
 PlaceKeeps start entries t m queue g begin made place.Pass = HeadIsPassed t (first_key queue)
-PlaceKeeps start entries t m queue g begin made (place.Retire number others) = AllByRecursion (IsCleanIn m g) (number ∷ others)
+PlaceKeeps start entries t m queue g begin made (place.Retire number others) = AllByRecursion (IsCleanIn m g) (number ∷ others) × NumbersAscend (number ∷ others)
 PlaceKeeps start entries t m queue g begin made _ = ⊤
 
 -- ---- entries of calls in progress

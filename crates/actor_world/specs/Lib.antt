@@ -10,3 +10,4 @@ pub mod Mounted
 pub mod Runs
 pub mod Rows
 pub mod Lines
+pub mod Settled

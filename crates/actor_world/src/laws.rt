@@ -290,3 +290,16 @@ pub fn steps_keep_groups_of_queues<D: Disk, T: Tells>()
     rows_are_within_limits();
     holders_have_rows();
 }
+
+/// A law: each step leads from a world that meets the invariant to one that meets it, for every actor, call and place.
+pub fn steps_keep_the_invariant<D: Disk, T: Tells>()
+    ensures { (face : DiskFace D) (start : Table) (a : ℕ) (old new : World D) → Invariant T.tells start old → Step face T.tells a old new
+        → Invariant T.tells start new }
+{
+    each_call_has_one_reply();
+    tables_stay_well_formed();
+    rows_are_within_limits();
+    holders_have_rows();
+    lowest_keys_are_least();
+    changes_pass_over_holds();
+}
