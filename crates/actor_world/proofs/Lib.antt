@@ -14,6 +14,7 @@ mod LegalSteps
 mod LicenceSteps
 mod Lists
 mod LiveWords
+mod LockSteps
 mod Locks
 mod LogLock
 mod Looks

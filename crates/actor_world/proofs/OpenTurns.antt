@@ -127,7 +127,7 @@ pin_locked_turn start h m inv a queue begin queue_is key seen shows row is =
           subst (λ (o : Option Word). Turned h.table m a (call.OpenKey key) (place.PinLocked seen) begin queue (answers d reply.Done (moved_to a d (place.Leave reply.Done) (put_word key.number o m))))
           (sym (opened_word key.generation (cached_word m key.number) (can_open_there h.table m key seen shows same)))
           (goes _ _ _ (pins_locked key seen (seen_there start h m inv key seen shows same)) queue_is)
-      | false ↦ λ differs. goes None _ m (pin_misses_locked key seen row is) queue_is
+      | false ↦ λ differs. goes None _ m (pin_misses_locked key seen row is differs) queue_is
     ] refl
 
 pub install_turn : Laws → (start : Table) (h : History) (m : Memory) → Within start h m → (a : ℕ) (queue : List Key) (begin : ℕ) → (actor_at m a).queue ≡ queue → (key : Key)

@@ -211,8 +211,7 @@ module _ {t u : Table} {m memory : Memory} {made : Call} where
       let is : k ≡ key = λ i. record { number = same i; generation = life i } in
       let here : Repins t u m memory made key = subst (Repins t u m memory made) is r in
       let was : row_of t key ≡ Some here.old = row_here t key here.old here.was in
-      let old_is : here.old ≡ holds.0 = same_Some here.old holds.0 (sym was ∙ holds.1.row_is) in
-      (
+      let old_is : here.old ≡ holds.0 = same_Some here.old holds.0 (sym was ∙ holds.1.row_is) in (
         here.new,
         record {
           row_is = row_here u key here.new here.is;

@@ -287,7 +287,7 @@ own_keeps start h begin facts begun keeps (load_pins key inside seen) = seen
 own_keeps start h begin facts begun keeps (finds_row key row can is) = has_row h.table key row is
 own_keeps start h begin facts begun keeps (locked_pins key row is seen) = (seen, has_row h.table key row is)
 own_keeps start h begin facts begun keeps (locked_installs key row is dead) = (has_row h.table key row is, dead)
-own_keeps start h begin facts begun keeps (pin_misses_locked key seen row is) = has_row h.table key row is
+own_keeps start h begin facts begun keeps (pin_misses_locked key seen row is differs) = has_row h.table key row is
 own_keeps start h begin {m = m} {a = a} {q = q} {memory = memory} facts begun keeps (locks_short made g is can) =
     let t : Table = h.table in
     let go : Option ℕ = group_of_call q made in
@@ -332,8 +332,7 @@ module _ (t : Table) (m : Memory) where
   mark_due : (made : Call) (key : Key) → HeldWord t m key → ((row : Row) → row_of t key ≡ Some row → ((row_after t row made).links == 0) ≡ sets_mark made) → ((row : Row) → (row_after t row made).opens ≡ row.opens)
       → after_call t made reply.Done ≡ with_changed t key (row_of t key) made → (row : Row) × MarkDue made (after_call t made reply.Done) (make_dirty key.number m) key row
   mark_due made key held links opens table =
-      let put = dirty_slot m key.number (live_has_slot m key.number held.live) in
-      (
+      let put = dirty_slot m key.number (live_has_slot m key.number held.live) in (
         row_after t held.row made,
         record {
           row_is = ap (λ u. row_of u key) table ∙ changed_row t key held.row made held.row_is;

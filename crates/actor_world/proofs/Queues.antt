@@ -162,6 +162,7 @@ module _ (laws : Laws) (start : Table) (h : History) (m : Memory) (inv : Within 
       and_true : (b : Bool) → (b && true) ≡ b
       and_true true = refl
       and_true false = refl
+
       and_false : (b : Bool) → (b && false) ≡ false
       and_false true = refl
       and_false false = refl

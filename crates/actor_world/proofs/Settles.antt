@@ -1,5 +1,5 @@
 -- A key that is settled stays so, whatever legally happens.
-use Rattle.std.proofs.Common.{◌≡◌, ◌≢◌, ◌<◌, ◌≤◌, ◌+◌, ◌*◌, ◌/◌, ◌%◌, ◌==◌, ◌&&◌, ◌++◌, ◌⊎◌, inl, inr, ℕ, zero, suc, Bool, true, false, List, [], ◌∷◌, Option, None, Some, IsSomeAnd, is_none, if◌then◌else◌, nat_lt, length, slice_get, slice_set, take, drop, append-nil, append_assoc, refl, sym, ap, subst, ◌∙◌, arith}
+use Rattle.std.proofs.Common.{◌≡◌, ◌≢◌, ◌<◌, ◌≤◌, ◌+◌, ◌*◌, ◌/◌, ◌%◌, ◌==◌, ◌&&◌, ◌++◌, ◌⊎◌, inl, inr, ℕ, zero, suc, Bool, true, false, List, [], ◌∷◌, Option, None, Some, IsSome, IsSomeAnd, is_none, if◌then◌else◌, nat_lt, length, slice_get, slice_set, take, drop, append-nil, append_assoc, refl, sym, ap, subst, ◌∙◌, arith}
 use Rattle.std.specs.List.{AllByRecursion}
 use Rattle.std.proofs.lemmas.List.{take-append-drop}
 use Rattle.std.proofs.lemmas.Option.{none-some, same_Some}
@@ -38,16 +38,18 @@ use Rattle.actor_world.proofs.WordSteps.{changed_other}
 
 -- ---- the inode of a number after an event
 
--- its life does not fall; and where its row awaits it stays as it is, or its next life begins
+-- its life does not fall; where its row awaits it stays as it is, or its next life begins; and where it has a row it has one,
+-- or its next life begins
 pub record Follows (inode later : Inode) : Type 0 where
   pub rises : inode.generation ≤ later.generation
   pub awaits : IsSomeAnd inode.row Awaits → (later ≡ inode) ⊎ (inode.generation < later.generation)
+  pub rows : IsSome inode.row → IsSome later.row ⊎ (inode.generation < later.generation)
 
 abbrev pub Onward : Option Inode → Inode → Type 0
 Onward o inode = (later : Inode) × (o ≡ Some later) × Follows inode later
 
 follows_itself : (inode : Inode) → Follows inode inode
-follows_itself inode = record { rises = omega arith; awaits = λ awaits. inl refl }
+follows_itself inode = record { rises = omega arith; awaits = λ awaits. inl refl; rows = λ some. inl some }
 
 stays_on : (o : Option Inode) (inode : Inode) → o ≡ Some inode → Onward o inode
 stays_on o inode is = (inode, is, follows_itself inode)
@@ -58,12 +60,11 @@ changed_follows : (t : Table) (key : Key) (made : Call) (row : Row) → row_of t
 changed_follows t key made row is stays n inode at =
     elim (cases_eq n key.number) [
       | inl same ↦
-          let here : inode ≡ in_use key row = same_Some inode (in_use key row) (sym at ∙ ap (λ k. inode_of t k) same ∙ inode_is t key row is) in
-          (
+          let here : inode ≡ in_use key row = same_Some inode (in_use key row) (sym at ∙ ap (λ k. inode_of t k) same ∙ inode_is t key row is) in (
             in_use key (row_after t row made),
             ap (λ k. inode_of (with_changed t key (row_of t key) made) k) same ∙ ap (λ (o : Option Row). inode_of (with_changed t key o made) key.number) is
                 ∙ inode_same t key.number (in_use key row) (in_use key (row_after t row made)) (inode_is t key row is),
-            subst (λ (x : Inode). Follows x (in_use key (row_after t row made))) (sym here) (record { rises = omega arith; awaits = λ awaits. absurd (stays awaits) }),
+            subst (λ (x : Inode). Follows x (in_use key (row_after t row made))) (sym here) (record { rises = omega arith; awaits = λ awaits. absurd (stays awaits); rows = λ some. inl refl }),
           )
       | inr apart ↦ stays_on _ inode (changed_other t key (row_of t key) made n apart ∙ at)
     ]
@@ -171,11 +172,10 @@ module _ (lowest : LowestIsFree) (t : Table) (g : ℕ) (key : Key) (links : ℕ)
         | inl same ↦
             let life = life_is in
             let is : inode ≡ life.0 = same_Some inode life.0 (sym (prepared_on n inode at) ∙ ap (λ k. inode_of (prepare t g) k) same ∙ life.1) in
-            let new : Inode = in_use key (made_row links) in
-            (
+            let new : Inode = in_use key (made_row links) in (
               new,
               ap (λ k. inode_of (with_row (prepare t g) key (made_row links)) k) same ∙ inode_same (prepare t g) key.number life.0 new life.1,
-              subst (λ (x : Inode). Follows x new) (sym is) (record { rises = let g_is = life.2 in omega (arith, g_is); awaits = λ awaits. absurd (free_awaits_not life.0 life.3 awaits) }),
+              subst (λ (x : Inode). Follows x new) (sym is) (record { rises = let g_is = life.2 in omega (arith, g_is); awaits = λ awaits. absurd (free_awaits_not life.0 life.3 awaits); rows = λ some. inl refl }),
             )
         | inr apart ↦ stays_on _ inode (inode_other (prepare t g) key.number n (in_use key (made_row links)) (λ e. apart (sym e)) ∙ prepared_on n inode at)
       ]
@@ -219,11 +219,10 @@ free_follows t key awaits n inode at =
       | inl same ↦
           let row = the_some Awaits (row_of t key) awaits in
           let here : inode ≡ in_use key row.0 = same_Some inode (in_use key row.0) (sym at ∙ ap (λ k. inode_of t k) same ∙ inode_is t key row.0 row.1) in
-          let new : Inode = record { generation = key.generation + 1; row = None } in
-          (
+          let new : Inode = record { generation = key.generation + 1; row = None } in (
             new,
             ap (λ k. inode_of (freed t key) k) same ∙ inode_same t key.number (in_use key row.0) new (inode_is t key row.0 row.1),
-            subst (λ (x : Inode). Follows x new) (sym here) (record { rises = omega arith; awaits = λ awaits. inr (omega arith) }),
+            subst (λ (x : Inode). Follows x new) (sym here) (record { rises = omega arith; awaits = λ awaits. inr (omega arith); rows = λ some. inr (omega arith) }),
           )
       | inr apart ↦ stays_on _ inode (inode_other t key.number n _ (λ e. apart (sym e)) ∙ at)
     ]
@@ -243,6 +242,14 @@ event_follows laws lowest t (Freed key) ok happens open_ n inode at = free_follo
 -- a row in the life of a key
 pub row_in : (t : Table) (key : Key) (inode : Inode) → inode_of t key.number ≡ Some inode → inode.generation ≡ key.generation → row_of t key ≡ inode.row
 row_in t key inode at life = ap (row_in_life key.generation) at ∙ ap (λ b. if b then inode.row else None) (eq-eqb inode.generation key.generation life)
+
+-- the key has a row, or had one
+abbrev pub HasLived : Table → Key → Type 0
+HasLived t key = IsPast t key ⊎ IsSome (row_of t key)
+
+some_row : (o : Option Row) → IsSome o → (row : Row) × (o ≡ Some row)
+some_row None has = absurd (true≢false (sym has))
+some_row (Some row) has = (row, refl)
 
 module _ (laws : Laws) (lowest : LowestIsFree) (t : Table) (event : Event) (ok : IsTable t) (happens : Happens t event (after_event t event)) (by : ByHolder t event) (key : Key) where
   pub past_one : IsPast t key → IsPast (after_event t event) key
@@ -264,6 +271,19 @@ module _ (laws : Laws) (lowest : LowestIsFree) (t : Table) (event : Event) (ok :
   pub settled_one : IsSettled t key → IsSettled (after_event t event) key
   settled_one (inl past) = inl (past_one past)
   settled_one (inr awaits) = awaits_one awaits
+
+  pub lived_one : HasLived t key → HasLived (after_event t event) key
+  lived_one (inl past) = inl (past_one past)
+  lived_one (inr has) =
+      let row = some_row (row_of t key) has in
+      let on = event_follows laws lowest t event ok happens by key.number (in_use key row.0) (inode_is t key row.0 row.1) in
+      elim (on.2.rows refl) [
+        | inl some ↦ elim (cases_eq on.0.generation key.generation) [
+          | inl same ↦ inr (subst (λ (o : Option Row). IsSome o) (sym (row_in (after_event t event) key on.0 on.1 same)) some)
+          | inr differ ↦ inl (record { inode = on.0; at = on.1; later = let rises = on.2.rises in omega (arith, rises, differ) })
+        ]
+        | inr rises ↦ inl (record { inode = on.0; at = on.1; later = rises })
+      ]
 
 -- a key whose life is past has no row
 pub past_gone : (t : Table) (key : Key) → IsPast t key → row_of t key ≡ None
@@ -326,6 +346,12 @@ pub take_whole : (entries : List Entry) → take (length entries) entries ≡ en
 take_whole [] = refl
 take_whole (entry ∷ entries) = ap (λ es. entry ∷ es) (take_whole entries)
 
+split_at : (entries : List Entry) (i : ℕ) (entry : Entry) → slice_get entries i ≡ Some entry → (rest : List Entry) × (entries ≡ take i entries ++ entry ∷ rest)
+split_at [] i entry at = absurd (none-some entry at)
+split_at (first ∷ entries) zero entry at = (entries, ap (λ e. e ∷ entries) (same_Some first entry at))
+split_at (first ∷ entries) (suc i) entry at =
+    let rest = split_at entries i entry at in (rest.0, ap (λ es. first ∷ es) rest.1)
+
 module _ (laws : Laws) (lowest : LowestIsFree) (start : Table) (ok : IsTable start) where
   table_ok : (before : List Entry) (t : Table) → LegalHistory start before t → IsTable t
   table_ok before t legal = laws.history start t before ok legal.leads
@@ -350,12 +376,36 @@ module _ (laws : Laws) (lowest : LowestIsFree) (start : Table) (ok : IsTable sta
         leads = subst (λ v. Leads v rest u) is leads;
       }
 
-  settled_on : (key : Key) (before rest : List Entry) (t u : Table) → LegalHistory start before t → Leads t rest u → AreByHolders before rest → IsSettled t key → IsSettled u key
-  settled_on key before [] t u legal leads all settled = subst (λ v. IsSettled v key) (sym leads) settled
-  settled_on key before (entry ∷ rest) t u legal leads all settled =
+  -- what each event of a legal history leaves so is so at its end
+  kept_on : (P : Table → Type 0) → ((t : Table) (event : Event) → IsTable t → Happens t event (after_event t event) → ByHolder t event → P t → P (after_event t event))
+      → (before rest : List Entry) (t u : Table) → LegalHistory start before t → Leads t rest u → AreByHolders before rest → P t → P u
+  kept_on P keep before [] t u legal leads all is = subst P (sym leads) is
+  kept_on P keep before (entry ∷ rest) t u legal leads all is =
       let one = one_on before entry rest t u legal leads all in
-      settled_on key (before ++ entry ∷ []) rest (after_event t entry.event) u one.legal one.leads all.1
-      (settled_one laws lowest t entry.event one.ok_is one.happens one.by key settled)
+      kept_on P keep (before ++ entry ∷ []) rest (after_event t entry.event) u one.legal one.leads all.1 (keep t entry.event one.ok_is one.happens one.by is)
+
+  kept_from : (P : Table → Type 0) → ((t : Table) (event : Event) → IsTable t → Happens t event (after_event t event) → ByHolder t event → P t → P (after_event t event))
+      → (entries : List Entry) (t : Table) (n : ℕ) → LegalHistory start entries t → P (table_at start entries n) → P t
+  kept_from P keep entries t n legal is =
+      let parts = parted start (take n entries) (drop n entries) t (subst (λ es. LegalHistory start es t) (sym (take-append-drop n entries)) legal) in
+      kept_on P keep (take n entries) (drop n entries) (table_at start entries n) t parts.legal parts.leads parts.held is
+
+  -- a key that was settled after some entries is
+  pub settled_from : (entries : List Entry) (t : Table) (n : ℕ) (key : Key) → LegalHistory start entries t → IsSettled (table_at start entries n) key → IsSettled t key
+  settled_from entries t n key legal settled = kept_from (λ t. IsSettled t key) (λ t event ok_is happens by. settled_one laws lowest t event ok_is happens by key) entries t n legal settled
+
+  -- a key that had a row after some entries has one, or is past
+  pub lived_from : (entries : List Entry) (t : Table) (n : ℕ) (key : Key) → LegalHistory start entries t → IsSome (row_of (table_at start entries n) key) → HasLived t key
+  lived_from entries t n key legal has = kept_from (λ t. HasLived t key) (λ t event ok_is happens by. lived_one laws lowest t event ok_is happens by key) entries t n legal (inr has)
+
+  -- what an entry was answered was permitted at its table
+  pub permitted_at : (entries : List Entry) (t : Table) (i a : ℕ) (made : Call) (answer : Reply) → LegalHistory start entries t → slice_get entries i ≡ Some (record { actor = a; event = Called made answer })
+      → LegalHistory start (take i entries) (table_at start entries i) × Permits (table_at start entries i) made answer
+  permitted_at entries t i a made answer legal at =
+      let entry : Entry = record { actor = a; event = Called made answer } in
+      let rest = split_at entries i entry at in
+      let parts = parted start (take i entries) (entry ∷ rest.0) t (subst (λ es. LegalHistory start es t) rest.1 legal) in
+      (parts.legal, (one_on (take i entries) entry rest.0 (table_at start entries i) t parts.legal parts.leads parts.held).happens.0)
 
   -- the keys that wait for a gc are settled
   own_settled : (t : Table) (event : Event) (keys : List Key) → AllByRecursion (IsSettled t) keys → AllByRecursion (IsSettled t) (queue_after_own t event keys)
@@ -387,6 +437,4 @@ module _ (laws : Laws) (lowest : LowestIsFree) (start : Table) (ok : IsTable sta
 
   -- a row that awaited after some entries
   pub awaited_settled : (entries : List Entry) (t : Table) (n : ℕ) (key : Key) → LegalHistory start entries t → IsSomeAnd (row_of (table_at start entries n) key) Awaits → IsSettled t key
-  awaited_settled entries t n key legal awaits =
-      let parts = parted start (take n entries) (drop n entries) t (subst (λ es. LegalHistory start es t) (sym (take-append-drop n entries)) legal) in
-      settled_on key (take n entries) (drop n entries) (table_at start entries n) t parts.legal parts.leads parts.held (inr awaits)
+  awaited_settled entries t n key legal awaits = settled_from entries t n key legal (inr awaits)

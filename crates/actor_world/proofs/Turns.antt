@@ -21,7 +21,7 @@ use Rattle.actor_world.specs.declared.memory.Place.TheVariants as place
 use Rattle.actor_world.specs.declared.memory.Residence.TheVariants.{Absent}
 use Rattle.actor_world.specs.declared.memory.Actor.{Actor}
 use Rattle.actor_world.specs.declared.memory.Memory.{Memory}
-use Rattle.actor_world.specs.Caches.{brought, cache_at, cached_word, clean_of, copy_all, is_of_geometry, locked, make_dirty, slot_at, unlocked, with_actor, with_slot}
+use Rattle.actor_world.specs.Caches.{brought, cache_at, cached_word, clean_of, copy_all, is_of_geometry, locked, make_dirty, same_word, slot_at, unlocked, with_actor, with_slot}
 use Rattle.actor_world.specs.Moves.{Move, group_of_call, is_log_call, links_of, makes_unlinked, place_after_change, release_queue, rows_to_free, sets_mark, stands_at, with_inodes, with_rows_to_free}
 use Rattle.actor_world.specs.Words.{InstallDue, KillDue, MarkDue}
 use Rattle.actor_world.proofs.LiveWords.{Opened}
@@ -106,7 +106,7 @@ pub data Turn (t : Table) (m : Memory) (a : ℕ) : Call → Place → List Key �
   pins_locked : {q : List Key} → (key : Key) → (seen : Word) → Opened t m key
       → Turn t m a (call.OpenKey key) (place.PinLocked seen) q (Some (Called (call.OpenKey key) reply.Done)) (Some (place.Leave reply.Done)) q
       (with_word key.number (record (cached_word m key.number) { pins = (cached_word m key.number).pins + 1 }) m)
-  pin_misses_locked : {q : List Key} → (key : Key) → (seen : Word) → (row : Row) → row_of t key ≡ Some row
+  pin_misses_locked : {q : List Key} → (key : Key) → (seen : Word) → (row : Row) → row_of t key ≡ Some row → same_word (cached_word m key.number) seen ≡ false
       → Turn t m a (call.OpenKey key) (place.PinLocked seen) q None (Some place.LoadLocked) q m
   installs : {q : List Key} → (key : Key) → DeadRow t m key → HasSlot m key.number
       → Turn t m a (call.OpenKey key) place.Install q (Some (Called (call.OpenKey key) reply.Done)) (Some (place.Leave reply.Done)) q

@@ -11,3 +11,4 @@ pub mod Runs
 pub mod Rows
 pub mod Lines
 pub mod Settled
+pub mod Bounds
