@@ -30,6 +30,7 @@ mod Progress
 mod Queues
 mod QueueSteps
 mod RoomTurns
+mod SettledKeys
 mod Settles
 mod ShapeSteps
 mod Sights

@@ -1,6 +1,6 @@
 // Laws of the world's steps.
 
-ghost use Rattle.std.specs.Prelude.{◌≡◌, ◌⊎◌, ◌<◌, ℕ, true, false, List, Option, None, Some, IsSome};
+ghost use Rattle.std.specs.Prelude.{◌≡◌, ◌≤◌, ◌⊎◌, ◌<◌, ℕ, true, false, List, Option, None, Some, IsSome, slice_get};
 ghost use Rattle.log_record.specs.declared.image.Commit.{Commit};
 ghost use Rattle.log_store.specs.State.{state_of};
 ghost use Rattle.log_store.specs.Outcome.{steps_left};
@@ -9,8 +9,11 @@ ghost use Rattle.life_table.specs.declared.key.Key.{Key};
 ghost use Rattle.life_table.specs.declared.types.Call.{Call as AnyCall};
 ghost use Rattle.life_table.specs.declared.types.Call.TheVariants as Call;
 ghost use Rattle.life_table.specs.declared.types.Reply.TheVariants as Reply;
-ghost use Rattle.life_table.specs.declared.types.Event.{Event};
+ghost use Rattle.life_table.specs.declared.types.Event.{Event as AnyEvent};
+ghost use Rattle.life_table.specs.declared.types.Event.TheVariants as Event;
 ghost use Rattle.life_table.specs.declared.table.Table.{Table};
+ghost use Rattle.life_table.specs.Table.{row_of};
+ghost use Rattle.life_table.specs.Legal.{Permits};
 ghost use Rattle.life_table.specs.History.{LegalHistory};
 ghost use Rattle.slot_words.specs.declared.sight.Sight.TheVariants as Sight;
 ghost use Rattle.slot_words.specs.Steps.{sight_of};
@@ -24,9 +27,10 @@ ghost use Rattle.actor_world.specs.World.{History, IsBegun, World, told_if};
 ghost use Rattle.actor_world.specs.Steps.{DiskFace, Step};
 ghost use Rattle.actor_world.specs.Bounds.{StepsInLock, steps_in_lock};
 ghost use Rattle.actor_world.specs.Kinds.{IsLogKind};
-ghost use Rattle.actor_world.specs.Licence.{Interval, Licensed};
+ghost use Rattle.actor_world.specs.Licence.{Interval, Licensed, table_at};
 ghost use Rattle.actor_world.specs.Invariant.{Invariant, HasEntry, unfinished_from};
 ghost use Rattle.actor_world.specs.Mounted.{IsMounted};
+ghost use Rattle.actor_world.specs.Settled.{IsSettled};
 ghost use Rattle.life_table.specs.declared.types.Reply.{Reply as AnyReply};
 
 use disk_model::Disk;
@@ -56,7 +60,7 @@ pub fn steps_are_of_four_kinds<D: Disk, T: Tells>()
 /// A law: a step appends at most one entry, which is of the actor that takes it and of its call.
 pub fn steps_append_one_entry<D: Disk, T: Tells>()
     ensures { (face : DiskFace D) (a : ℕ) (old new : World D) → (step : Step face T.tells a old new)
-        → (event : Option Event) × (new.history ≡ told_if a step.doing.«from» event old.history) }
+        → (event : Option AnyEvent) × (new.history ≡ told_if a step.doing.«from» event old.history) }
 {}
 
 /// A law: the first step of an open or a close takes no lock of a group, so it never waits. An open whose first step finds
@@ -162,4 +166,27 @@ pub fn locks_are_given_back<D: Disk, T: Tells>()
     lowest_keys_are_least();
     changes_pass_over_holds();
     jobs_end::<D>();
+}
+
+/// A law: a key is settled where its number is in a chunk and in a later life, or where its row awaits being freed. A
+/// settled key stays so, and each later open of it is answered that it is stale; and a key that had a row in this mount is
+/// settled where an open of it would be answered so. A key of a life to come may be stale now and made later.
+pub fn settled_keys_stay_stale<D: Disk, T: Tells>()
+    ensures stays { (start : Table) (w : World D) (n : ℕ) (key : Key) → Invariant T.tells start w
+        → IsSettled (table_at start w.history.entries n) key → IsSettled w.history.table key }
+    ensures steps { (face : DiskFace D) (start : Table) (a : ℕ) (old new : World D) (key : Key) → Invariant T.tells start old
+        → Step face T.tells a old new → IsSettled old.history.table key → IsSettled new.history.table key }
+    ensures stale { (t : Table) (key : Key) (answer : AnyReply) → IsSettled t key → Permits t (Call.OpenKey key) answer → answer ≡ Reply.Stale }
+    ensures entries { (start : Table) (w : World D) (n i a : ℕ) (key : Key) (answer : AnyReply) → Invariant T.tells start w → n ≤ i
+        → IsSettled (table_at start w.history.entries n) key
+        → slice_get w.history.entries i ≡ Some (record { actor = a; event = Event.Called (Call.OpenKey key) answer }) → answer ≡ Reply.Stale }
+    ensures answered { (start : Table) (w : World D) (n : ℕ) (key : Key) → Invariant T.tells start w
+        → IsSome (row_of (table_at start w.history.entries n) key) → Permits w.history.table (Call.OpenKey key) Reply.Stale
+        → IsSettled w.history.table key }
+{
+    each_call_has_one_reply();
+    tables_stay_well_formed();
+    rows_are_within_limits();
+    holders_have_rows();
+    lowest_keys_are_least();
 }
