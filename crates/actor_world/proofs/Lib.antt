@@ -4,6 +4,7 @@ mod EachTurn
 mod Effects
 mod EntrySteps
 mod Frames
+mod Frees
 mod Geometry
 mod HeldWords
 mod Holding

@@ -98,12 +98,11 @@ own_frees h begin long frees _ = tt
 has_row : (t : Table) (key : Key) (row : Row) → row_of t key ≡ Some row → HasRow t key
 has_row t key row is = subst (λ (o : Option Row). IsSome o) (sym is) refl
 
--- the rows that await, as the lock is taken
-module _ (start : Table) (entries : List Entry) (t : Table) (g : ℕ) (begin : ℕ) (laid : AreLaid (group_at t g))
-    (awaited : (key : Key) → IsSomeAnd (row_of (table_at start entries begin) key) Awaits → IsSettled t key) where
-  test : Inode → Bool
-  test inode = is_awaiting_row inode.row
+-- the rows of a group that await
+test : Inode → Bool
+test inode = is_awaiting_row inode.row
 
+module _ (t : Table) (g : ℕ) where
   inode_here : (agino : ℕ) (inode : Inode) → agino < GROUP_NUMBERS → inode_in (group_at t g) agino ≡ Some inode → inode_of t (g * GROUP_NUMBERS + agino) ≡ Some inode
   unfolding inode_of
   inode_here agino inode few at =
@@ -111,24 +110,24 @@ module _ (start : Table) (entries : List Entry) (t : Table) (g : ℕ) (begin : �
       let low : (g * GROUP_NUMBERS + agino) % GROUP_NUMBERS ≡ agino = omega (arith, few) in
       ap (λ h. inode_in (group_at t h) ((g * GROUP_NUMBERS + agino) % GROUP_NUMBERS)) high ∙ ap (λ n. inode_in (group_at t g) n) low ∙ at
 
-  awaiting_free : AllByRecursion (MayBeFreed t (Some g)) (awaiting_of t g)
+  pub awaiting_free : AreLaid (group_at t g) → AllByRecursion (MayBeFreed t (Some g)) (awaiting_of t g)
   unfolding test
-  awaiting_free =
+  awaiting_free laid =
       subst (AllByRecursion (MayBeFreed t (Some g))) (sym (awaiting_picks t g))
       (picks_all test (MayBeFreed t (Some g)) g (group_at t g) laid (λ agino inode at few is. (
         subst (λ (o : Option Row). IsSomeAnd o Awaits) (sym (row_in t (record { number = g * GROUP_NUMBERS + agino; generation = inode.generation }) inode (inode_here agino inode few at) refl)) (awaits_from inode.row is),
         ap (λ n. Some n) (omega (arith, few)),
       )))
 
-  awaiting_ascend : KeysAscend (awaiting_of t g)
+  pub awaiting_ascend : AreLaid (group_at t g) → KeysAscend (awaiting_of t g)
   unfolding test
-  awaiting_ascend = subst KeysAscend (sym (awaiting_picks t g)) (picks_ascend test g (group_at t g) laid)
+  awaiting_ascend laid = subst KeysAscend (sym (awaiting_picks t g)) (picks_ascend test g (group_at t g) laid)
 
   there_in : (key : Key) (inode : Inode) → group_number key ≡ g → inode_of t key.number ≡ Some inode → inode_in (group_at t g) (key.number % GROUP_NUMBERS) ≡ Some inode
   unfolding inode_of
   there_in key inode group at = ap (λ h. inode_in (group_at t h) (key.number % GROUP_NUMBERS)) (sym group) ∙ at
 
-  awaiting_has : (key : Key) → group_number key ≡ g → IsSomeAnd (row_of t key) Awaits → Contains (awaiting_of t g) key
+  pub awaiting_has : (key : Key) → group_number key ≡ g → IsSomeAnd (row_of t key) Awaits → Contains (awaiting_of t g) key
   unfolding test
   awaiting_has key group awaits =
       let row = the_some Awaits (row_of t key) awaits in
@@ -137,6 +136,9 @@ module _ (start : Table) (entries : List Entry) (t : Table) (g : ℕ) (begin : �
       (subst (λ n. Contains (picks test g (group_at t g)) (record { number = n; generation = key.generation })) same
       (picks_has test g (group_at t g) (key.number % GROUP_NUMBERS) (in_use key row.0) (there_in key (in_use key row.0) group (inode_is t key row.0 row.1)) (awaits_to (Some row.0) row.2)))
 
+-- as the lock is taken
+module _ (start : Table) (entries : List Entry) (t : Table) (g : ℕ) (begin : ℕ) (laid : AreLaid (group_at t g))
+    (awaited : (key : Key) → IsSomeAnd (row_of (table_at start entries begin) key) Awaits → IsSettled t key) where
   settled_awaits : (key : Key) → HasRow t key → IsSettled t key → IsSomeAnd (row_of t key) Awaits
   settled_awaits key has (inl past) = absurd (none_has (row_of t key) (past_gone t key past) has)
     where
@@ -147,9 +149,9 @@ module _ (start : Table) (entries : List Entry) (t : Table) (g : ℕ) (begin : �
 
   pub awaiting_left : RowsLeft start entries t (Some g) begin (awaiting_of t g)
   awaiting_left = record {
-    free = awaiting_free;
-    ascend = awaiting_ascend;
-    passed = λ key group awaits has. awaiting_has key (same_Some (group_number key) g group) (settled_awaits key has (awaited key awaits));
+    free = awaiting_free t g laid;
+    ascend = awaiting_ascend t g laid;
+    passed = λ key group awaits has. awaiting_has t g key (same_Some (group_number key) g group) (settled_awaits key has (awaited key awaits));
   }
 
 rows_keep : (start : Table) (entries : List Entry) (t : Table) (m : Memory) (q : List Key) (g : Option ℕ) (begin : ℕ) (made : Call) (keys : List Key)
@@ -170,7 +172,7 @@ bare_gone u key bare = gone (row_of u key) refl
     gone None is = refl
     gone (Some row) is = absurd (none-some row (sym bare ∙ any_row_is u key row is))
 
-freed_gone : (t : Table) (key : Key) → IsSomeAnd (row_of t key) Awaits → row_of (freed t key) key ≡ None
+pub freed_gone : (t : Table) (key : Key) → IsSomeAnd (row_of t key) Awaits → row_of (freed t key) key ≡ None
 freed_gone t key awaits = let row = the_some Awaits (row_of t key) awaits in bare_gone (freed t key) key (freed_bare t key row.0 row.1)
 
 -- the rows that are left after the first of them was freed
@@ -275,7 +277,7 @@ pub record OwnFacts (start : Table) (h : History) (m : Memory) (begin : ℕ) (q 
   pub awaited : (key : Key) → IsSomeAnd (row_of (table_at start h.entries begin) key) Awaits → IsSettled h.table key
   pub waiting : made ≡ call.Gc → AllByRecursion (IsSettled h.table) q
 
-settled_free : (t : Table) (key : Key) (row : Row) → row_of t key ≡ Some row → IsSettled t key → IsSomeAnd (row_of t key) Awaits
+pub settled_free : (t : Table) (key : Key) (row : Row) → row_of t key ≡ Some row → IsSettled t key → IsSomeAnd (row_of t key) Awaits
 settled_free t key row is (inl past) = absurd (none-some row (sym (past_gone t key past) ∙ is))
 settled_free t key row is (inr awaits) = awaits
 

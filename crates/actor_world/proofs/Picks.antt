@@ -182,7 +182,7 @@ picks_has test g (chunk ∷ chunks) agino inode at is =
       | false ↦ λ other at. contains_right here rest _ (picks_has test g chunks agino inode at is)
     ] refl at
 
-ascend_append : (xs ys : List Key) (bound : ℕ) → KeysAscend xs → KeysAscend ys → AllByRecursion (λ (key : Key). key.number < bound) xs → AllByRecursion (λ (key : Key). bound ≤ key.number) ys → KeysAscend (xs ++ ys)
+pub ascend_append : (xs ys : List Key) (bound : ℕ) → KeysAscend xs → KeysAscend ys → AllByRecursion (λ (key : Key). key.number < bound) xs → AllByRecursion (λ (key : Key). bound ≤ key.number) ys → KeysAscend (xs ++ ys)
 ascend_append [] ys bound first second low high = second
 ascend_append (x ∷ xs) ys bound first second low high =
     let below = low.0 in (

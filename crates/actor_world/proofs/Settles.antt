@@ -357,14 +357,14 @@ module _ (laws : Laws) (lowest : LowestIsFree) (start : Table) (ok : IsTable sta
   table_ok before t legal = laws.history start t before ok legal.leads
 
   -- the first of the entries that follow
-  record One (before : List Entry) (entry : Entry) (rest : List Entry) (t u : Table) : Type 0 where
-    ok_is : IsTable t
-    happens : Happens t entry.event (after_event t entry.event)
-    by : ByHolder t entry.event
-    legal : LegalHistory start (before ++ entry ∷ []) (after_event t entry.event)
-    leads : Leads (after_event t entry.event) rest u
+  pub record One (before : List Entry) (entry : Entry) (rest : List Entry) (t u : Table) : Type 0 where
+    pub ok_is : IsTable t
+    pub happens : Happens t entry.event (after_event t entry.event)
+    pub by : ByHolder t entry.event
+    pub legal : LegalHistory start (before ++ entry ∷ []) (after_event t entry.event)
+    pub leads : Leads (after_event t entry.event) rest u
 
-  one_on : (before : List Entry) (entry : Entry) (rest : List Entry) (t u : Table) → LegalHistory start before t → Leads t (entry ∷ rest) u → AreByHolders before (entry ∷ rest) → One before entry rest t u
+  pub one_on : (before : List Entry) (entry : Entry) (rest : List Entry) (t u : Table) → LegalHistory start before t → Leads t (entry ∷ rest) u → AreByHolders before (entry ∷ rest) → One before entry rest t u
   one_on before entry rest t u legal (next, one, leads) all =
       let is : next ≡ after_event t entry.event = after_one t next entry.event one in
       let happens : Happens t entry.event (after_event t entry.event) = subst (Happens t entry.event) is one in

@@ -1,7 +1,7 @@
 -- What the next step of a call comes to: what happens by it, if anything does, and what is then in memory. It is a
 -- function of the table, of what is in memory, and of the actor; a step that only the log decides has none here.
 use Rattle.std.specs.Prelude.{◌+◌, ◌*◌, ◌==◌, ◌&&◌, ℕ, Bool, true, false, List, [], ◌∷◌, ◌++◌, Option, None, Some, is_some, is_none, if◌then◌else◌, nat_lt, length}
-use Rattle.std.specs.List.{flat_map}
+use Rattle.std.specs.List.{flat_map, range_with_len}
 use Rattle.life_limits.specs.declared.TheConstants.{GROUP_NUMBERS}
 use Rattle.life_table.specs.declared.key.Key.{Key}
 use Rattle.life_table.specs.declared.types.Row.{Row}
@@ -62,6 +62,10 @@ awaiting_from number (inode ∷ inodes) =
 -- those of a group, ascending
 unfoldable pub awaiting_of : Table → ℕ → List Key
 awaiting_of t g = flat_map (λ chunk. awaiting_from (g * GROUP_NUMBERS + chunk.start) chunk.inodes) (group_at t g)
+
+-- those of all groups, ascending: what an unmount frees
+unfoldable pub awaiting_rows : Table → List Key
+awaiting_rows t = flat_map (awaiting_of t) (range_with_len 0 (length t.groups))
 
 -- whether no number of the group is free and no chunk can be added
 abbrev pub has_no_number : Table → ℕ → Bool

@@ -1,6 +1,6 @@
 // Laws of the world's steps.
 
-ghost use Rattle.std.specs.Prelude.{◌≡◌, ◌≤◌, ◌⊎◌, ◌<◌, ℕ, true, false, List, Option, None, Some, IsSome, slice_get};
+ghost use Rattle.std.specs.Prelude.{◌≡◌, ◌≤◌, ◌⊎◌, ◌↔◌, ◌<◌, ℕ, true, false, List, Option, None, Some, IsSome, IsSomeAnd, slice_get};
 ghost use Rattle.log_record.specs.declared.image.Commit.{Commit};
 ghost use Rattle.log_store.specs.State.{state_of};
 ghost use Rattle.log_store.specs.Outcome.{steps_left};
@@ -12,9 +12,12 @@ ghost use Rattle.life_table.specs.declared.types.Reply.TheVariants as Reply;
 ghost use Rattle.life_table.specs.declared.types.Event.{Event as AnyEvent};
 ghost use Rattle.life_table.specs.declared.types.Event.TheVariants as Event;
 ghost use Rattle.life_table.specs.declared.table.Table.{Table};
-ghost use Rattle.life_table.specs.Table.{row_of};
-ghost use Rattle.life_table.specs.Legal.{Permits};
-ghost use Rattle.life_table.specs.History.{LegalHistory};
+ghost use Rattle.std.specs.List.{Contains};
+ghost use Rattle.life_table.specs.declared.types.Row.{Row};
+ghost use Rattle.life_table.specs.WellFormed.{IsTable};
+ghost use Rattle.life_table.specs.Table.{group_number, row_of};
+ghost use Rattle.life_table.specs.Legal.{Awaits, Permits};
+ghost use Rattle.life_table.specs.History.{Leads, LegalHistory, after_entries, frees_of};
 ghost use Rattle.slot_words.specs.declared.sight.Sight.TheVariants as Sight;
 ghost use Rattle.slot_words.specs.Steps.{sight_of};
 ghost use Rattle.actor_world.specs.declared.memory.Place.{Place};
@@ -22,23 +25,23 @@ ghost use Rattle.actor_world.specs.declared.memory.Place.TheVariants as place;
 ghost use Rattle.actor_world.specs.declared.memory.Doing.{Doing};
 ghost use Rattle.actor_world.specs.declared.memory.Memory.{Memory};
 ghost use Rattle.actor_world.specs.Caches.{moved_to, cached_word, ended, is_of_geometry, actor_at};
-ghost use Rattle.actor_world.specs.Moves.{answers, open_move, pinned, silent, lies_in_group, lies_in_log, takes_group, takes_log, waits_in_group, is_log_call, move_of};
+ghost use Rattle.actor_world.specs.Moves.{answers, awaiting_of, awaiting_rows, open_move, pinned, silent, lies_in_group, lies_in_log, takes_group, takes_log, waits_in_group, is_log_call, move_of};
 ghost use Rattle.actor_world.specs.World.{History, IsBegun, World, told_if};
 ghost use Rattle.actor_world.specs.Steps.{DiskFace, Step};
 ghost use Rattle.actor_world.specs.Bounds.{StepsInLock, steps_in_lock};
 ghost use Rattle.actor_world.specs.Kinds.{IsLogKind};
 ghost use Rattle.actor_world.specs.Licence.{Interval, Licensed, table_at};
-ghost use Rattle.actor_world.specs.Invariant.{Invariant, HasEntry, unfinished_from};
+ghost use Rattle.actor_world.specs.Invariant.{Invariant, HasEntry, KeysAscend, unfinished_from};
 ghost use Rattle.actor_world.specs.Mounted.{IsMounted};
 ghost use Rattle.actor_world.specs.Settled.{IsSettled};
 ghost use Rattle.life_table.specs.declared.types.Reply.{Reply as AnyReply};
 
 use disk_model::Disk;
-use log_store::jobs_end;
 use life_table::{
     changes_pass_over_holds, each_call_has_one_reply, holders_have_rows, lowest_keys_are_least,
     recovery_frees_once, rows_are_within_limits, tables_stay_well_formed,
 };
+use log_store::jobs_end;
 
 /// What a commit is told of: whether it encodes the change from one history to the next. What is proved of the bytes of
 /// a commit fills it in.
@@ -183,6 +186,30 @@ pub fn settled_keys_stay_stale<D: Disk, T: Tells>()
     ensures answered { (start : Table) (w : World D) (n : ℕ) (key : Key) → Invariant T.tells start w
         → IsSome (row_of (table_at start w.history.entries n) key) → Permits w.history.table (Call.OpenKey key) Reply.Stale
         → IsSettled w.history.table key }
+{
+    each_call_has_one_reply();
+    tables_stay_well_formed();
+    rows_are_within_limits();
+    holders_have_rows();
+    lowest_keys_are_least();
+}
+
+/// A law: what a shortage frees are the rows of its group that await as the lock is taken, ascending; a key of an actor's
+/// queue has no row or one that awaits, so a gc may free it; what an unmount frees can be freed in turn, and leaves all
+/// rows but those that await; and no key is freed twice.
+pub fn frees_are_exact<D: Disk, T: Tells>()
+    ensures shortage { (t : Table) (g : ℕ) (key : Key) → IsTable t
+        → Contains (awaiting_of t g) key ↔ (group_number key ≡ g) × IsSomeAnd (row_of t key) Awaits }
+    ensures ascending { (t : Table) (g : ℕ) → IsTable t → KeysAscend (awaiting_of t g) }
+    ensures gc { (start : Table) (w : World D) (a : ℕ) (key : Key) → Invariant T.tells start w → Contains (actor_at w.memory a).queue key
+        → IsSome (row_of w.history.table key) → IsSomeAnd (row_of w.history.table key) Awaits }
+    ensures unmount { (t : Table) (actor : ℕ) → IsTable t
+        → Leads t (frees_of actor (awaiting_rows t)) (after_entries t (frees_of actor (awaiting_rows t))) }
+    ensures left { (t : Table) (actor : ℕ) (key : Key) (row : Row) → IsTable t
+        → row_of (after_entries t (frees_of actor (awaiting_rows t))) key ≡ Some row → (row_of t key ≡ Some row) × (Awaits row → ⊥) }
+    ensures once { (start : Table) (w : World D) (i j a b : ℕ) (key : Key) → Invariant T.tells start w
+        → slice_get w.history.entries i ≡ Some (record { actor = a; event = Event.Freed key })
+        → slice_get w.history.entries j ≡ Some (record { actor = b; event = Event.Freed key }) → i ≡ j }
 {
     each_call_has_one_reply();
     tables_stay_well_formed();
