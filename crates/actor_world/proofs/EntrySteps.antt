@@ -57,7 +57,7 @@ home_reply place.TakeLog stands = refl
 home_reply place.WriteHome stands = refl
 home_reply _ stands = absurd (false≢true stands)
 
-log_reply : (made : Call) (at : Place) → is_log_call made ≡ true → stands_at made at ≡ true → reply_at at ≡ None
+pub log_reply : (made : Call) (at : Place) → is_log_call made ≡ true → stands_at made at ≡ true → reply_at at ≡ None
 log_reply call.Sync at log stands = sync_reply at stands
 log_reply call.Home at log stands = home_reply at stands
 log_reply _ at log stands = absurd (false≢true log)
@@ -91,7 +91,7 @@ pub data EndTurn (made : Call) (was : Option Reply) : Option Event → Type 0 wh
   Had : (answer : Reply) → was ≡ Some answer → EndTurn made was None
   Gets : (answer : Reply) → was ≡ None → EndTurn made was (Some (Called made answer))
 
-pub end_turn : {t : Table} {m : Memory} {a : ℕ} {made : Call} {at : Place} {q later : List Key} {event : Option Event} {memory : Memory}
+unfoldable pub end_turn : {t : Table} {m : Memory} {a : ℕ} {made : Call} {at : Place} {q later : List Key} {event : Option Event} {memory : Memory}
     → Turn t m a made at q event None later memory → EndTurn made (reply_at at) event
 end_turn (leaves made answer g is) = Had answer refl
 end_turn (load_crowded key row is full) = Gets _ refl

@@ -259,7 +259,7 @@ own_doing all start h m a made at begin q later event (Some onward) memory turn 
     subst (λ (y : Doing). Keeping start (told_if a begin event h) (with_actor a (after_turn made begin (Some onward) later) memory) a later y) (same_Some _ d inside)
     (own_keeping all start h m a made at begin q later event onward memory turn)
 
-own_line : (made : Call) (begin : ℕ) (next : Option Place) (later : List Key) → (after_turn made begin next later).queue ≡ later
+pub own_line : (made : Call) (begin : ℕ) (next : Option Place) (later : List Key) → (after_turn made begin next later).queue ≡ later
 own_line made begin None later = refl
 own_line made begin (Some onward) later = refl
 

@@ -44,6 +44,8 @@ mod StoreMoves
 mod Turns
 mod TurnsFound
 mod Waits
+mod WholeLines
+mod WholeRuns
 mod Within
 mod WordSteps
 mod WordsKept

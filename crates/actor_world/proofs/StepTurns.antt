@@ -64,7 +64,7 @@ home_progress t first s (Err faults.PositionEnd) = tt
 home_progress t first s (Err (faults.Down fault)) = tt
 
 -- a close stands at a place at which nothing is due
-close_due_not : (queue : Option Key) (key : Key) (at : Place) → stands_at (call.CloseKey key) at ≡ true → due_at queue (call.CloseKey key) at ≡ nothing
+pub close_due_not : (queue : Option Key) (key : Key) (at : Place) → stands_at (call.CloseKey key) at ≡ true → due_at queue (call.CloseKey key) at ≡ nothing
 close_due_not queue key place.Unpin stands = refl
 close_due_not queue key _ stands = absurd (false≢true stands)
 

@@ -12,3 +12,4 @@ pub mod Rows
 pub mod Lines
 pub mod Settled
 pub mod Bounds
+pub mod WholeCalls

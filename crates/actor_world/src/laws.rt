@@ -1,6 +1,6 @@
 // Laws of the world's steps.
 
-ghost use Rattle.std.specs.Prelude.{◌≡◌, ◌≤◌, ◌⊎◌, ◌↔◌, ◌<◌, ℕ, true, false, List, Option, None, Some, IsSome, IsSomeAnd, slice_get};
+ghost use Rattle.std.specs.Prelude.{◌≡◌, ◌≤◌, ◌⊎◌, ◌↔◌, ◌<◌, ℕ, true, false, List, Option, None, Some, IsSome, IsSomeAnd, length, slice_get};
 ghost use Rattle.log_record.specs.declared.image.Commit.{Commit};
 ghost use Rattle.log_store.specs.State.{state_of};
 ghost use Rattle.log_store.specs.Outcome.{steps_left};
@@ -32,6 +32,8 @@ ghost use Rattle.actor_world.specs.Bounds.{StepsInLock, steps_in_lock};
 ghost use Rattle.actor_world.specs.Kinds.{IsLogKind};
 ghost use Rattle.actor_world.specs.Licence.{Interval, Licensed, table_at};
 ghost use Rattle.actor_world.specs.Invariant.{Invariant, HasEntry, KeysAscend, unfinished_from};
+ghost use Rattle.actor_world.specs.Lines.{line};
+ghost use Rattle.actor_world.specs.WholeCalls.{IsWholeCall, lines_of};
 ghost use Rattle.actor_world.specs.Mounted.{IsMounted};
 ghost use Rattle.actor_world.specs.Settled.{IsSettled};
 ghost use Rattle.life_table.specs.declared.types.Reply.{Reply as AnyReply};
@@ -216,4 +218,20 @@ pub fn frees_are_exact<D: Disk, T: Tells>()
     rows_are_within_limits();
     holders_have_rows();
     lowest_keys_are_least();
+}
+
+/// A law: a whole call of the group, which one actor begins and steps through with no other actor's step between, is
+/// answered as whole lines say, and leaves the table, the queues of gc and the number of changes that they say.
+pub fn whole_calls_are_lines<D: Disk, T: Tells>()
+    ensures { (face : DiskFace D) (start : Table) (a n : ℕ) (made : AnyCall) (old new : World D) → Invariant T.tells start old
+        → is_log_call made ≡ false → IsWholeCall face T.tells a made n old new
+        → HasEntry new.history.entries new.history.froms a (length old.history.entries) made (Some (line a made (lines_of old)).reply)
+        × (lines_of new ≡ (line a made (lines_of old)).state) }
+{
+    each_call_has_one_reply();
+    tables_stay_well_formed();
+    rows_are_within_limits();
+    holders_have_rows();
+    lowest_keys_are_least();
+    changes_pass_over_holds();
 }
