@@ -1,4 +1,5 @@
 mod Begins
+mod CallSteps
 mod CommitSteps
 mod EachTurn
 mod Effects

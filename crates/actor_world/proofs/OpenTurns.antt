@@ -92,7 +92,7 @@ pin_turn start h m inv a queue begin queue_is key seen shows =
           subst (λ (o : Option Word). Turned h.table m a (call.OpenKey key) (place.Pin seen) begin queue (answers d reply.Done (ended a (put_word key.number o m))))
           (sym (opened_word key.generation (cached_word m key.number) (can_open_there h.table m key seen shows same)))
           (ends _ _ (pins key seen (seen_there start h m inv key seen shows same)) queue_is)
-      | false ↦ λ differs. goes None _ m (pin_misses key seen) queue_is
+      | false ↦ λ differs. goes None _ m (pin_misses key seen differs) queue_is
     ] refl
 
 -- ---- under the lock

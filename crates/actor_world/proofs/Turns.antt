@@ -90,7 +90,7 @@ pub data Turn (t : Table) (m : Memory) (a : ℕ) : Call → Place → List Key �
   pins : {q : List Key} → (key : Key) → (seen : Word) → Opened t m key
       → Turn t m a (call.OpenKey key) (place.Pin seen) q (Some (Called (call.OpenKey key) reply.Done)) None q
       (with_word key.number (record (cached_word m key.number) { pins = (cached_word m key.number).pins + 1 }) m)
-  pin_misses : {q : List Key} → (key : Key) → (seen : Word) → Turn t m a (call.OpenKey key) (place.Pin seen) q None (Some place.Find) q m
+  pin_misses : {q : List Key} → (key : Key) → (seen : Word) → same_word (cached_word m key.number) seen ≡ false → Turn t m a (call.OpenKey key) (place.Pin seen) q None (Some place.Find) q m
   finds_none : {q : List Key} → (key : Key) → CanLock m (group_number key) → row_of t key ≡ None
       → Turn t m a (call.OpenKey key) place.Find q (Some (Called (call.OpenKey key) reply.Stale)) (Some (place.Leave reply.Stale)) q (locked a (group_number key) m)
   finds_row : {q : List Key} → (key : Key) → (row : Row) → CanLock m (group_number key) → row_of t key ≡ Some row

@@ -220,8 +220,7 @@ whole_call all one face tells start a n made old new inv group whole =
     let x : Actor = record { doing = Some d; queue = (actor_at old.memory a).queue } in
     let inside : (actor_at whole.begun.memory a).doing ≡ Some d = ap (λ (k : Memory). (actor_at k a).doing) b.memory ∙ ap (λ (y : Actor). y.doing) (read_same old.memory.actors a x idle_actor b.actor) in
     let end = run_ends all one face tells start a n whole.begun new d (begin_kept all.laws tells start a made old whole.begun inv b) inside group whole.steps in
-    let same : rest a made (first_place made) (lines_of whole.begun) ≡ line a made (lines_of old) = ap (λ s. rest a made (first_place made) s) (begun_lines a made old whole.begun b) ∙ first_rest a made (lines_of old) group in
-    (
+    let same : rest a made (first_place made) (lines_of whole.begun) ≡ line a made (lines_of old) = ap (λ s. rest a made (first_place made) s) (begun_lines a made old whole.begun b) ∙ first_rest a made (lines_of old) group in (
       subst (λ (r : LineResult). HasEntry new.history.entries new.history.froms a (length old.history.entries) made (Some r.reply)) same end.entry,
       end.state ∙ ap (λ (r : LineResult). r.state) same,
     )

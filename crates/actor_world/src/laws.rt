@@ -28,7 +28,7 @@ ghost use Rattle.actor_world.specs.Caches.{moved_to, cached_word, ended, is_of_g
 ghost use Rattle.actor_world.specs.Moves.{answers, awaiting_of, awaiting_rows, open_move, pinned, silent, lies_in_group, lies_in_log, takes_group, takes_log, waits_in_group, is_log_call, move_of};
 ghost use Rattle.actor_world.specs.World.{History, IsBegun, World, told_if};
 ghost use Rattle.actor_world.specs.Steps.{DiskFace, Step};
-ghost use Rattle.actor_world.specs.Bounds.{StepsInLock, steps_in_lock};
+ghost use Rattle.actor_world.specs.Bounds.{StepsInLock, steps_in_call, steps_in_lock};
 ghost use Rattle.actor_world.specs.Kinds.{IsLogKind};
 ghost use Rattle.actor_world.specs.Licence.{Interval, Licensed, table_at};
 ghost use Rattle.actor_world.specs.Invariant.{Invariant, HasEntry, KeysAscend, unfinished_from};
@@ -227,6 +227,19 @@ pub fn whole_calls_are_lines<D: Disk, T: Tells>()
         → is_log_call made ≡ false → IsWholeCall face T.tells a made n old new
         → HasEntry new.history.entries new.history.froms a (length old.history.entries) made (Some (line a made (lines_of old)).reply)
         × (lines_of new ≡ (line a made (lines_of old)).state) }
+{
+    each_call_has_one_reply();
+    tables_stay_well_formed();
+    rows_are_within_limits();
+    holders_have_rows();
+    lowest_keys_are_least();
+    changes_pass_over_holds();
+}
+
+/// A law: such a call of the group has ended after at most so many steps as the world bounds.
+pub fn whole_calls_end<D: Disk, T: Tells>()
+    ensures { (face : DiskFace D) (start : Table) (a n : ℕ) (made : AnyCall) (old new : World D) → Invariant T.tells start old
+        → is_log_call made ≡ false → IsWholeCall face T.tells a made n old new → n ≤ steps_in_call old a made }
 {
     each_call_has_one_reply();
     tables_stay_well_formed();
