@@ -90,7 +90,7 @@ goes_fewer u group (locks_flush g can) = omega arith
 goes_fewer u group (copies g) = omega arith
 goes_fewer {m = m} {q = q} {memory = memory} u group (locks_reclaim g can) = inodes_left u memory q (call.Reclaim g) (clean_of m g)
 goes_fewer {q = q} {memory = memory} u group (retires g number others idle) = inodes_left u memory q (call.Reclaim g) others
-goes_fewer {q = q} {memory = memory} u group (retires_none g number others) = inodes_left u memory q (call.Reclaim g) others
+goes_fewer {q = q} {memory = memory} u group (retires_none g number others busy) = inodes_left u memory q (call.Reclaim g) others
 goes_fewer u group (goes_on made at onward is stands stands_next) = absurd (true≢false (sym is ∙ group))
 
 -- and one that ends it had one left

@@ -122,7 +122,7 @@ slots_stay m g holder number =
       | inr differ ↦ ap (λ (c : GroupCache). slice_index_or c.slots (number % GROUP_NUMBERS) first_slot) (cache_other m g (number / GROUP_NUMBERS) cache differ)
     ]
 
-read_copied : (slots : List Slot) (i : ℕ) → slice_index_or (map copied_slot slots) i first_slot ≡ copied_slot (slice_index_or slots i first_slot)
+pub read_copied : (slots : List Slot) (i : ℕ) → slice_index_or (map copied_slot slots) i first_slot ≡ copied_slot (slice_index_or slots i first_slot)
 read_copied [] i = refl
 read_copied (slot ∷ slots) zero = refl
 read_copied (slot ∷ slots) (suc i) = read_copied slots i

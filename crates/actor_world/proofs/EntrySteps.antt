@@ -82,7 +82,7 @@ entry_turn (locks_short made g is can) = Silent _ (rows_reply _)
 entry_turn (kills made g key others is due) = Silent _ (rows_reply others)
 entry_turn (locks_reclaim g can) = Silent _ (inodes_reply _)
 entry_turn (retires g number others idle) = Silent _ (inodes_reply others)
-entry_turn (retires_none g number others) = Silent _ (inodes_reply others)
+entry_turn (retires_none g number others busy) = Silent _ (inodes_reply others)
 entry_turn (goes_on made at onward is stands stands_next) = Silent _ (log_reply made onward is stands_next ∙ sym (log_reply made at is stands))
 entry_turn _ = Silent _ refl
 

@@ -114,7 +114,7 @@ retire_turn t m a queue begin queue_is g number others =
           subst (λ (n : Memory). Turned t m a (call.Reclaim g) (place.Retire number others) begin queue (silent (moved_to a d (with_inodes others) n)))
           (sym (inode_over_word m number Absent later (live_has_slot m number live)))
           (goes _ _ _ (retires g number others idle) queue_is)
-      | false ↦ λ busy. goes _ _ _ (retires_none g number others) queue_is
+      | false ↦ λ busy. goes _ _ _ (retires_none g number others busy) queue_is
     ] refl
 
 pub reclaim_turn : (t : Table) (m : Memory) (a : ℕ) (queue : List Key) (begin : ℕ) → (actor_at m a).queue ≡ queue → (g : ℕ) (at : Place) → (at ≡ place.LockReclaim → CanLock m g)

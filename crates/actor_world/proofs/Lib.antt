@@ -9,6 +9,7 @@ mod Frees
 mod Geometry
 mod HeldWords
 mod Holding
+mod HouseCalls
 mod HouseTurns
 mod JobSteps
 mod Kept

@@ -78,7 +78,7 @@ turn_falls (kills_head key keys due) lies stays = omega arith
 turn_falls (passes key onward keys) lies stays = absurd (false≢true stays)
 turn_falls (copies g) lies stays = omega arith
 turn_falls {memory = memory} (retires g number others idle) lies stays = inodes_left memory (call.Reclaim g) others
-turn_falls {memory = memory} (retires_none g number others) lies stays = inodes_left memory (call.Reclaim g) others
+turn_falls {memory = memory} (retires_none g number others busy) lies stays = inodes_left memory (call.Reclaim g) others
 turn_falls (goes_on made at onward is stands stands_next) lies stays = absurd (true≢false (sym lies ∙ log_lies made at is stands))
 turn_falls _ lies stays = absurd (false≢true lies)
 

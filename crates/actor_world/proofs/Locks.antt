@@ -133,7 +133,7 @@ lock_turn {m = m} (frees_head key keys awaits) = Keeps refl (λ h. holder_slot m
 lock_turn {m = m} (kills made g key others is due) = Keeps (lock_kept _ _ _ (rows_lie others) refl) (λ h. holder_slot m key.number h _)
 lock_turn {m = m} (kills_head key keys due) = Keeps refl (λ h. holder_slot m key.number h _)
 lock_turn {m = m} (retires g number others idle) = Keeps (lock_kept _ _ _ (inodes_lie others) refl) (λ h. holder_slot m number h _)
-lock_turn (retires_none g number others) = Keeps (lock_kept _ _ _ (inodes_lie others) refl) (λ h. refl)
+lock_turn (retires_none g number others busy) = Keeps (lock_kept _ _ _ (inodes_lie others) refl) (λ h. refl)
 lock_turn {m = m} (copies g) = Keeps refl (λ h. holder_same m g h _ refl)
 lock_turn {q = q} (goes_on made at next is stands stands_next) = Keeps (lock_none _ _ (log_lies made at is stands) ∙ sym (lock_none _ _ (log_lies made next is stands_next))) (λ h. refl)
 lock_turn {q = q} (is_answered made at answer is stands permits) = Keeps (lock_none _ _ (log_lies made at is stands)) (λ h. refl)

@@ -93,7 +93,7 @@ stands_turn (makes_none made g is permits) = maker_leaves made g reply.NoInodes 
 stands_turn (installs_made made g key row is due) = maker_leaves made g (reply.Made key) is
 stands_turn (locks_reclaim g can) = inodes_stand g _
 stands_turn (retires g number others idle) = inodes_stand g others
-stands_turn (retires_none g number others) = inodes_stand g others
+stands_turn (retires_none g number others busy) = inodes_stand g others
 stands_turn (goes_on made at onward is stands stands_next) = stands_next
 stands_turn _ = refl
 

@@ -87,7 +87,7 @@ own_frees h begin {a = a} long frees (kills made g key others is due) = rows_fre
 own_frees h begin {a = a} long frees (frees_one made g key others is group awaits) = freed_now h a begin key long
 own_frees h begin {a = a} long frees (locks_reclaim g can) = inodes_frees h.entries h.froms h.table a begin (call.Reclaim g) _
 own_frees h begin {a = a} long frees (retires g number others idle) = inodes_frees h.entries h.froms h.table a begin (call.Reclaim g) others
-own_frees h begin {a = a} long frees (retires_none g number others) = inodes_frees h.entries h.froms h.table a begin (call.Reclaim g) others
+own_frees h begin {a = a} long frees (retires_none g number others busy) = inodes_frees h.entries h.froms h.table a begin (call.Reclaim g) others
 own_frees h begin {a = a} {event = event} long frees (changes made key is permits) =
     elim (is_mark_due made reply.Done (links_of (row_of h.table key))) as (λ b. FreesAreRight (told_if a begin event h).entries (told_if a begin event h).froms (table_after h.table event) a begin made (if b then place.Mark reply.Done else place.Leave reply.Done)) [ true ↦ tt | false ↦ tt ]
 own_frees h begin {a = a} long frees (goes_on made at onward is stands stands_next) = log_frees h.entries h.froms h.table a begin made made onward is stands_next
@@ -309,7 +309,7 @@ own_keeps start h begin {m = m} {a = a} {q = q} {memory = memory} facts begun ke
     inodes_keep start h.entries h.table memory q (Some g) begin (call.Reclaim g) (clean_of m g) (clean_now h.table m a g facts.ok facts.shaped) (clean_ascend (g * GROUP_NUMBERS) (cache_at m g).slots)
 own_keeps start h begin {m = m} {q = q} {memory = memory} facts begun keeps (retires g number others idle) =
     inodes_keep start h.entries h.table memory q (Some g) begin (call.Reclaim g) others (retired_rest m (Some g) number _ others keeps.1.0 keeps.0.1) keeps.1.1
-own_keeps start h begin {m = m} {q = q} facts begun keeps (retires_none g number others) =
+own_keeps start h begin {m = m} {q = q} facts begun keeps (retires_none g number others busy) =
     inodes_keep start h.entries h.table m q (Some g) begin (call.Reclaim g) others keeps.0.1 keeps.1.1
 own_keeps start h begin {a = a} {q = q} {event = event} {memory = memory} facts begun keeps (changes made key is permits) =
     elim (is_mark_due made reply.Done (links_of (row_of h.table key))) as (λ b. PlaceKeeps start (told_if a begin event h).entries (table_after h.table event) memory q (group_of_call q made) begin made (if b then place.Mark reply.Done else place.Leave reply.Done)) [ true ↦ tt | false ↦ tt ]
@@ -460,6 +460,6 @@ own_dues {t = t} {q = q} {memory = memory} facts (locks_short made g is can) = r
 own_dues {t = t} {q = q} {memory = memory} facts (kills made g key others is due) = rows_dues made t memory (first_key q) others
 own_dues {t = t} {q = q} {memory = memory} facts (locks_reclaim g can) = inodes_dues (call.Reclaim g) t memory (first_key q) _
 own_dues {t = t} {q = q} {memory = memory} facts (retires g number others idle) = inodes_dues (call.Reclaim g) t memory (first_key q) others
-own_dues {t = t} {q = q} {memory = memory} facts (retires_none g number others) = inodes_dues (call.Reclaim g) t memory (first_key q) others
+own_dues {t = t} {q = q} {memory = memory} facts (retires_none g number others busy) = inodes_dues (call.Reclaim g) t memory (first_key q) others
 own_dues {t = t} {m = m} {q = q} facts (goes_on made at onward is stands stands_next) = subst (DueHolds made t m) (sym (log_due (first_key q) made onward is stands_next)) tt
 own_dues facts _ = tt

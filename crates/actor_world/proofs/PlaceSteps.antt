@@ -222,7 +222,7 @@ turn_made {a = a} {event = event} h begin all (locks_short made g is can) = noth
 turn_made {a = a} {event = event} h begin all (kills made g key others is due) = nothing_made (told_if a begin event h).entries a _ (rows_made others)
 turn_made {a = a} {event = event} h begin all (locks_reclaim g can) = nothing_made (told_if a begin event h).entries a _ (inodes_made _)
 turn_made {a = a} {event = event} h begin all (retires g number others idle) = nothing_made (told_if a begin event h).entries a _ (inodes_made others)
-turn_made {a = a} {event = event} h begin all (retires_none g number others) = nothing_made (told_if a begin event h).entries a _ (inodes_made others)
+turn_made {a = a} {event = event} h begin all (retires_none g number others busy) = nothing_made (told_if a begin event h).entries a _ (inodes_made others)
 turn_made {a = a} {event = event} h begin all (goes_on made at onward is stands stands_next) = nothing_made (told_if a begin event h).entries a _ (log_made made onward is stands_next)
 turn_made h begin all _ = tt
 
@@ -265,7 +265,7 @@ turn_due {later = later} facts (locks_short made g is can) number due = no_due _
 turn_due {later = later} facts (kills made g key others is kill) number due = no_due _ number (rows_due (first_key later) made others) due
 turn_due {later = later} facts (locks_reclaim g can) number due = no_due _ number (inodes_due (first_key later) (call.Reclaim g) _) due
 turn_due {later = later} facts (retires g n others idle) number due = no_due _ number (inodes_due (first_key later) (call.Reclaim g) others) due
-turn_due {later = later} facts (retires_none g n others) number due = no_due _ number (inodes_due (first_key later) (call.Reclaim g) others) due
+turn_due {later = later} facts (retires_none g n others busy) number due = no_due _ number (inodes_due (first_key later) (call.Reclaim g) others) due
 turn_due {later = later} facts (goes_on made at onward is stands stands_next) number due = no_due _ number (log_due (first_key later) made onward is stands_next) due
 turn_due facts _ number due = absurd (none-some number due)
 

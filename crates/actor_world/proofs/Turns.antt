@@ -170,7 +170,7 @@ pub data Turn (t : Table) (m : Memory) (a : ℕ) : Call → Place → List Key �
   retires : {q : List Key} → (g number : ℕ) → (others : List ℕ) → is_idle (cached_word m number) ≡ true
       → Turn t m a (call.Reclaim g) (place.Retire number others) q None (Some (with_inodes others)) q
       (with_slot number (record { word = record (cached_word m number) { live = false }; inode = Absent }) m)
-  retires_none : {q : List Key} → (g number : ℕ) → (others : List ℕ)
+  retires_none : {q : List Key} → (g number : ℕ) → (others : List ℕ) → is_idle (cached_word m number) ≡ false
       → Turn t m a (call.Reclaim g) (place.Retire number others) q None (Some (with_inodes others)) q m
   ends_reclaim : {q : List Key} → (g : ℕ)
       → Turn t m a (call.Reclaim g) place.End q (Some (Called (call.Reclaim g) reply.Done)) None q (unlocked g m)

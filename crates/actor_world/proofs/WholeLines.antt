@@ -167,7 +167,7 @@ goes_rest {t = t} {m = m} {a = a} {made = made} {q = q} queues n facts permits (
     inodes_rest a made _ (lines_at t (slice_set queues a q) n) ∙ quiet t m queues n a made q facts (λ s. by_table made s)
 goes_rest {t = t} {m = m} {a = a} {made = made} {q = q} queues n facts permits (retires g number others idle) =
     inodes_rest a made others (lines_at t (slice_set queues a q) n) ∙ quiet t m queues n a made q facts (λ s. by_table made s)
-goes_rest {t = t} {m = m} {a = a} {made = made} {q = q} queues n facts permits (retires_none g number others) =
+goes_rest {t = t} {m = m} {a = a} {made = made} {q = q} queues n facts permits (retires_none g number others busy) =
     inodes_rest a made others (lines_at t (slice_set queues a q) n) ∙ quiet t m queues n a made q facts (λ s. by_table made s)
 goes_rest {t = t} {m = m} {a = a} {q = q} queues n facts permits (goes_on made at onward is stands stands_next) = absurd (true≢false (sym is ∙ facts.group_call))
 goes_rest {t = t} {m = m} {a = a} {made = made} {at = at} {q = q} queues n facts permits _ = quiet t m queues n a made q facts (λ s. rest a made at s)

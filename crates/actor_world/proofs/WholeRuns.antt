@@ -151,7 +151,7 @@ abbrev RunEnds : {D : Type 0} → DiskFace D → Telling → Table → ℕ → �
 RunEnds {D} face tells start a n = (w new : World D) (d : Doing) → Invariant tells start w → (actor_at w.memory a).doing ≡ Some d → is_log_call d.call ≡ false → StepsToEnd face tells a n w new
     → LineEnd a d.«from» d.call (rest a d.call d.place (lines_of w)) new
 
-idle_ends : {D : Type 0} (face : DiskFace D) (tells : Telling) (a n : ℕ) (w new : World D) → (actor_at w.memory a).doing ≡ None → StepsToEnd face tells a n w new → new ≡ w
+pub idle_ends : {D : Type 0} (face : DiskFace D) (tells : Telling) (a n : ℕ) (w new : World D) → (actor_at w.memory a).doing ≡ None → StepsToEnd face tells a n w new → new ≡ w
 idle_ends face tells a zero w new idle steps = steps.1
 idle_ends face tells a (suc n) w new idle steps = absurd (none-some steps.1.doing (sym idle ∙ steps.1.inside))
 

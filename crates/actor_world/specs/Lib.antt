@@ -12,4 +12,5 @@ pub mod Rows
 pub mod Lines
 pub mod Settled
 pub mod Bounds
+pub mod Houses
 pub mod WholeCalls

@@ -32,6 +32,7 @@ ghost use Rattle.actor_world.specs.Bounds.{StepsInLock, steps_in_call, steps_in_
 ghost use Rattle.actor_world.specs.Kinds.{IsLogKind};
 ghost use Rattle.actor_world.specs.Licence.{Interval, Licensed, table_at};
 ghost use Rattle.actor_world.specs.Invariant.{Invariant, HasEntry, KeysAscend, unfinished_from};
+ghost use Rattle.actor_world.specs.Houses.{IsFlushed, IsReclaimed};
 ghost use Rattle.actor_world.specs.Lines.{line};
 ghost use Rattle.actor_world.specs.WholeCalls.{IsWholeCall, lines_of};
 ghost use Rattle.actor_world.specs.Mounted.{IsMounted};
@@ -240,6 +241,22 @@ pub fn whole_calls_are_lines<D: Disk, T: Tells>()
 pub fn whole_calls_end<D: Disk, T: Tells>()
     ensures { (face : DiskFace D) (start : Table) (a n : ℕ) (made : AnyCall) (old new : World D) → Invariant T.tells start old
         → is_log_call made ≡ false → IsWholeCall face T.tells a made n old new → n ≤ steps_in_call old a made }
+{
+    each_call_has_one_reply();
+    tables_stay_well_formed();
+    rows_are_within_limits();
+    holders_have_rows();
+    lowest_keys_are_least();
+    changes_pass_over_holds();
+}
+
+/// A law: after a whole flush no in-core inode of the group is dirty; after a whole reclaim each live word of the group has
+/// a pin or the mark, or its in-core inode is dirty.
+pub fn flush_and_reclaim_clean<D: Disk, T: Tells>()
+    ensures flush { (face : DiskFace D) (start : Table) (a n g : ℕ) (old new : World D) → Invariant T.tells start old
+        → IsWholeCall face T.tells a (Call.FlushInodes g) n old new → IsFlushed new.memory g }
+    ensures reclaim { (face : DiskFace D) (start : Table) (a n g : ℕ) (old new : World D) → Invariant T.tells start old
+        → IsWholeCall face T.tells a (Call.Reclaim g) n old new → IsReclaimed new.memory g }
 {
     each_call_has_one_reply();
     tables_stay_well_formed();
