@@ -1,7 +1,7 @@
 -- A whole call makes at most so many steps.
-use Rattle.std.proofs.Common.{◌≡◌, ◌<◌, ◌≤◌, ◌+◌, ◌-◌, ◌*◌, ℕ, zero, suc, Bool, true, false, List, [], ◌∷◌, Option, None, Some, if◌then◌else◌, length, refl, sym, ap, subst, ◌∙◌, arith}
+use Rattle.std.proofs.Common.{◌≡◌, ◌<◌, ◌≤◌, ◌+◌, ◌*◌, ℕ, zero, suc, Bool, true, false, List, [], ◌∷◌, Option, None, Some, if◌then◌else◌, length, refl, sym, ap, subst, ◌∙◌, arith}
 use Rattle.std.proofs.lemmas.Option.{none-some, same_Some}
-use Rattle.std.proofs.lemmas.Bool.{false≢true, true≢false}
+use Rattle.std.proofs.lemmas.Bool.{true≢false}
 use Rattle.life_table.specs.declared.key.Key.{Key}
 use Rattle.life_table.specs.declared.types.Call.{Call}
 use Rattle.life_table.specs.declared.types.Call.TheVariants as call
@@ -17,8 +17,8 @@ use Rattle.actor_world.specs.declared.memory.Memory.{Memory}
 use Rattle.actor_world.specs.Bounds.{call_left, first_pin_left, pin_left, rows_now, steps_in_call}
 use Rattle.actor_world.specs.Caches.{actor_at, cached_word, clean_of, idle_actor, same_word, with_actor}
 use Rattle.actor_world.specs.Moves.{is_log_call, is_mark_due, links_of, rows_to_free, with_inodes, with_rows_to_free}
-use Rattle.actor_world.specs.World.{History, IsBegun, World, beginning, told_if}
-use Rattle.actor_world.specs.Steps.{DiskFace, Step, Telling}
+use Rattle.actor_world.specs.World.{History, World, beginning}
+use Rattle.actor_world.specs.Steps.{DiskFace, Telling}
 use Rattle.actor_world.specs.WholeCalls.{IsWholeCall, StepsToEnd}
 use Rattle.actor_world.specs.Invariant.{Invariant}
 use Rattle.actor_world.proofs.Begins.{begin_kept}

@@ -1,6 +1,6 @@
 -- What a turn leaves of a number of a group whose lock the actor does not hold: all; or the row has one hold more or less,
 -- and the word one pin.
-use Rattle.std.proofs.Common.{◌≡◌, ◌≢◌, ◌+◌, ◌-◌, ◌%◌, ◌/◌, ◌⊎◌, inl, inr, ℕ, true, List, Option, None, Some, slice_index_or, refl, sym, ap, subst, ◌∙◌, arith}
+use Rattle.std.proofs.Common.{◌≡◌, ◌≢◌, ◌+◌, ◌-◌, ◌%◌, ◌/◌, ◌⊎◌, inl, inr, ℕ, true, List, Option, None, Some, slice_index_or, refl, sym, ap, ◌∙◌, arith}
 use Rattle.std.proofs.lemmas.Option.{none-some, same_Some}
 use Rattle.std.proofs.lemmas.Bool.{cases_eq}
 use Rattle.life_limits.specs.declared.TheConstants.{GROUP_NUMBERS}
@@ -10,16 +10,12 @@ use Rattle.life_table.specs.declared.types.Call.{Call}
 use Rattle.life_table.specs.declared.types.Call.TheVariants as call
 use Rattle.life_table.specs.declared.types.Reply.TheVariants as reply
 use Rattle.life_table.specs.declared.types.Event.{Event}
-use Rattle.life_table.specs.declared.table.Inode.{Inode}
 use Rattle.life_table.specs.declared.table.Table.{Table}
 use Rattle.life_table.specs.Table.{group_number, in_use, inode_in, inode_of, row_of, with_row}
-use Rattle.life_table.specs.Space.{prepared}
 use Rattle.life_table.specs.Legal.{Awaits, IsNextKey, Permits, after_call, made_row, prepare, row_after, with_changed}
 use Rattle.life_table.specs.WellFormed.{IsTable}
-use Rattle.slot_words.specs.declared.word.Word.{Word}
 use Rattle.actor_world.specs.declared.memory.Place.{Place}
 use Rattle.actor_world.specs.declared.memory.Place.TheVariants as place
-use Rattle.actor_world.specs.declared.memory.Slot.{Slot}
 use Rattle.actor_world.specs.declared.memory.GroupCache.{GroupCache}
 use Rattle.actor_world.specs.declared.memory.Memory.{Memory}
 use Rattle.actor_world.specs.Caches.{cached_word, first_slot, slot_at, with_cache, with_slot}

@@ -1,19 +1,18 @@
 -- What a shortage, a gc and an unmount free.
-use Rattle.std.proofs.Common.{◌≡◌, ◌≢◌, ◌<◌, ◌≤◌, ◌+◌, ◌-◌, ◌*◌, ◌/◌, ◌%◌, ◌++◌, ◌⊎◌, inl, inr, ℕ, Bool, zero, suc, true, false, List, [], ◌∷◌, Option, None, Some, IsSome, IsSomeAnd, length, slice_get, refl, sym, ap, subst, ◌∙◌, arith}
+use Rattle.std.proofs.Common.{◌≡◌, ◌≢◌, ◌<◌, ◌≤◌, ◌+◌, ◌*◌, ◌++◌, inl, inr, ℕ, Bool, zero, suc, true, false, List, [], ◌∷◌, Option, None, Some, IsSome, IsSomeAnd, length, slice_get, refl, sym, ap, subst, ◌∙◌, arith}
 use Rattle.std.specs.Prelude.{◌↔◌}
 use Rattle.std.specs.List.{AllByRecursion, Contains, flat_map, range_with_len}
 use Rattle.std.proofs.lemmas.List.Elements.{Contains-append_left, Contains-append_right}
 use Rattle.std.proofs.lemmas.Option.{none-some, same_Some}
-use Rattle.std.proofs.lemmas.Bool.{cases_eq, cases_lt, false≢true, true≢false}
+use Rattle.std.proofs.lemmas.Bool.{cases_eq, cases_lt, false≢true}
 use Rattle.life_limits.specs.declared.TheConstants.{GROUP_NUMBERS}
 use Rattle.life_table.specs.declared.key.Key.{Key}
 use Rattle.life_table.specs.declared.types.Row.{Row}
 use Rattle.life_table.specs.declared.types.Event.{Event}
 use Rattle.life_table.specs.declared.types.Event.TheVariants.{Freed}
 use Rattle.life_table.specs.declared.types.Entry.{Entry}
-use Rattle.life_table.specs.declared.table.Inode.{Inode}
 use Rattle.life_table.specs.declared.table.Table.{Table}
-use Rattle.life_table.specs.Table.{group_at, group_number, in_use, inode_of, row_of}
+use Rattle.life_table.specs.Table.{group_number, in_use, inode_of, row_of}
 use Rattle.life_table.specs.Legal.{Awaits, freed}
 use Rattle.life_table.specs.History.{AreByHolders, Happens, Leads, LegalHistory, after_entries, after_event, frees_of}
 use Rattle.life_table.specs.WellFormed.{IsTable}
@@ -31,7 +30,7 @@ use Rattle.actor_world.proofs.Lists.{all_append, all_contains, all_weaker, the_s
 use Rattle.actor_world.proofs.LiveWords.{any_row_is, has_inode}
 use Rattle.actor_world.proofs.Looks.{inode_same, row_other}
 use Rattle.actor_world.proofs.Own.{awaiting_ascend, awaiting_free, awaiting_has, settled_free}
-use Rattle.actor_world.proofs.Picks.{AreLaid, ascend_append, table_laid}
+use Rattle.actor_world.proofs.Picks.{ascend_append, table_laid}
 use Rattle.actor_world.proofs.Prepares.{LowestIsFree}
 use Rattle.actor_world.proofs.Settles.{one_on, past_gone, past_one, queue_is_settled}
 use Rattle.actor_world.proofs.TurnsFound.{Laws}

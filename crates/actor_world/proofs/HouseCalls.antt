@@ -24,10 +24,10 @@ use Rattle.actor_world.specs.declared.memory.Doing.{Doing}
 use Rattle.actor_world.specs.declared.memory.Actor.{Actor}
 use Rattle.actor_world.specs.declared.memory.Memory.{Memory}
 use Rattle.actor_world.specs.Caches.{actor_at, cache_at, cached_word, clean_numbers, clean_of, copied, copy_all, copied_slot, first_slot, idle_actor, is_clean, locked, slot_at, unlocked, with_actor, with_slot}
-use Rattle.actor_world.specs.Houses.{IsFlushed, IsKept, IsReclaimed}
+use Rattle.actor_world.specs.Houses.{HasNoDirty, IsKept, IsReclaimed}
 use Rattle.actor_world.specs.Moves.{first_place, is_log_call, is_mark_due, links_of, stands_at, with_inodes, with_rows_to_free, rows_to_free}
-use Rattle.actor_world.specs.World.{History, IsBegun, World, beginning}
-use Rattle.actor_world.specs.Steps.{DiskFace, Step, Telling}
+use Rattle.actor_world.specs.World.{History, World, beginning}
+use Rattle.actor_world.specs.Steps.{DiskFace, Telling}
 use Rattle.actor_world.specs.WholeCalls.{IsWholeCall, StepsToEnd}
 use Rattle.actor_world.specs.Invariant.{GroupIsThere, Invariant}
 use Rattle.actor_world.proofs.Begins.{begin_kept}
@@ -37,7 +37,7 @@ use Rattle.actor_world.proofs.Lists.{read_same}
 use Rattle.actor_world.proofs.Slots.{cache_same, live_has_slot, slot_other, slot_same}
 use Rattle.actor_world.proofs.StepTurns.{TurnOf, stepped, turn_from}
 use Rattle.actor_world.proofs.Turns.{Turn, after_turn, changes, copies, ends_flush, ends_reclaim, goes_on, is_answered, kills, leaves, locks_reclaim, locks_short, retires, retires_none}
-use Rattle.actor_world.proofs.Within.{Within, within}
+use Rattle.actor_world.proofs.Within.{within}
 use Rattle.actor_world.proofs.WholeRuns.{idle_ends}
 
 -- each live word of a group is kept, or is still to be looked at
@@ -49,7 +49,7 @@ RetireKeeps (call.Reclaim g) m left = Looked m g left
 RetireKeeps _ m left = Unit {0}
 
 abbrev EndKeeps : Call → Memory → Type 0
-EndKeeps (call.FlushInodes g) m = IsFlushed m g
+EndKeeps (call.FlushInodes g) m = HasNoDirty m g
 EndKeeps (call.Reclaim g) m = Looked m g []
 EndKeeps _ m = Unit {0}
 
@@ -66,7 +66,7 @@ copied_not Absent is = let clash : Absent ≡ Dirty = is in cc
 copied_not Clean is = let clash : Clean ≡ Dirty = is in cc
 copied_not Dirty is = let clash : Clean ≡ Dirty = is in cc
 
-copied_all : (m : Memory) (g : ℕ) → g < length m.groups → IsFlushed (copy_all g m) g
+copied_all : (m : Memory) (g : ℕ) → g < length m.groups → HasNoDirty (copy_all g m) g
 copied_all m g low number inside dirty =
     let there : slot_at (copy_all g m) number ≡ copied_slot (slice_index_or (cache_at m g).slots (number % GROUP_NUMBERS) first_slot) =
     ap (λ h. slice_index_or (cache_at (copy_all g m) h).slots (number % GROUP_NUMBERS) first_slot) inside
@@ -180,7 +180,7 @@ leave_house (call.FlushInodes g) answer m stands = absurd (false≢true stands)
 leave_house (call.Reclaim g) answer m stands = absurd (false≢true stands)
 leave_house _ answer m stands = tt
 
-unlocked_flushed : (m : Memory) (g : ℕ) → IsFlushed m g → IsFlushed (unlocked g m) g
+unlocked_flushed : (m : Memory) (g : ℕ) → HasNoDirty m g → HasNoDirty (unlocked g m) g
 unlocked_flushed m g flushed number inside dirty = flushed number inside (sym (ap (λ (s : Slot). s.inode) (slots_stay m g None number)) ∙ dirty)
 
 unlocked_looked : (m : Memory) (g : ℕ) → Looked m g [] → Looked (unlocked g m) g []
@@ -261,7 +261,7 @@ whole_house all face tells start a n made old new inv group first whole =
     run_house all face tells start a n whole.begun new d (begin_kept all.laws tells start a made old whole.begun inv b) inside group (first whole.begun.memory) whole.steps
 
 pub whole_flush : AllLaws → {D : Type 0} (face : DiskFace D) (tells : Telling) (start : Table) (a n g : ℕ) (old new : World D) → Invariant tells start old
-    → IsWholeCall face tells a (call.FlushInodes g) n old new → IsFlushed new.memory g
+    → IsWholeCall face tells a (call.FlushInodes g) n old new → HasNoDirty new.memory g
 whole_flush all face tells start a n g old new inv whole = whole_house all face tells start a n (call.FlushInodes g) old new inv refl (λ m. tt) whole
 
 pub whole_reclaim : AllLaws → {D : Type 0} (face : DiskFace D) (tells : Telling) (start : Table) (a n g : ℕ) (old new : World D) → Invariant tells start old

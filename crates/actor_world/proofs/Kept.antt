@@ -1,5 +1,5 @@
 -- A step leads from a world that meets the invariant to one that does.
-use Rattle.std.proofs.Common.{◌≡◌, ◌≢◌, ◌<◌, ◌≤◌, ◌/◌, ◌⊎◌, inl, inr, ℕ, true, false, List, [], ◌∷◌, ◌++◌, Option, None, Some, length, refl, sym, ap, subst, ◌∙◌, arith}
+use Rattle.std.proofs.Common.{◌≡◌, ◌≢◌, ◌<◌, ◌≤◌, ◌/◌, inl, inr, ℕ, true, List, [], ◌∷◌, ◌++◌, Option, None, Some, length, refl, sym, ap, subst, ◌∙◌}
 use Rattle.std.specs.Prelude.{◌↔◌}
 use Rattle.std.specs.List.{AllByRecursion}
 use Rattle.std.proofs.lemmas.Option.{none-some, same_Some}
@@ -7,7 +7,6 @@ use Rattle.std.proofs.lemmas.Bool.{cases_eq}
 use Rattle.std.proofs.lemmas.List.{take-append-le}
 use Rattle.life_limits.specs.declared.TheConstants.{GROUP_NUMBERS}
 use Rattle.life_table.specs.declared.key.Key.{Key}
-use Rattle.life_table.specs.declared.types.Row.{Row}
 use Rattle.life_table.specs.declared.types.Call.{Call}
 use Rattle.life_table.specs.declared.types.Call.TheVariants as call
 use Rattle.life_table.specs.declared.types.Reply.TheVariants as reply
@@ -28,7 +27,7 @@ use Rattle.actor_world.specs.Caches.{actor_at, cached_word, idle_actor, with_act
 use Rattle.actor_world.specs.Moves.{group_of_call, is_awaiting_row, is_last_release, lies_in_group}
 use Rattle.actor_world.specs.World.{History, World, told_if}
 use Rattle.actor_world.specs.Steps.{DiskFace, Step, Telling}
-use Rattle.actor_world.specs.Words.{DueHolds, due_at, due_number, nothing}
+use Rattle.actor_world.specs.Words.{DueHolds, due_at, due_number}
 use Rattle.actor_world.specs.Licence.{queue_at, table_at}
 use Rattle.actor_world.specs.Invariant.{ActorIsRight, CallIsRight, DoingIsRight, FreesAreRight, GroupIsThere, HeadIsPassed, Invariant, IsShaped, LiesInGroup, PlaceKeeps, QueueIsRight, WordIsRight, due_of_actor, first_key, is_gc, is_gc_call}
 use Rattle.actor_world.specs.Settled.{IsPast, IsSettled}
@@ -45,7 +44,7 @@ use Rattle.actor_world.proofs.LegalSteps.{legal_kept}
 use Rattle.actor_world.proofs.LicenceSteps.{licence_kept, queue_of_gc}
 use Rattle.actor_world.proofs.Lists.{read_other, read_same}
 use Rattle.actor_world.proofs.LiveWords.{right_under}
-use Rattle.actor_world.proofs.Locks.{changer_group, lies_to, lock_of, lock_turn, locks_kept, room_call_group}
+use Rattle.actor_world.proofs.Locks.{lies_to, lock_of, lock_turn, locks_kept, room_call_group}
 use Rattle.actor_world.proofs.LogLock.{log_lock_kept}
 use Rattle.actor_world.proofs.Others.{Apart, OthersHold, dues_on, frees_on, keeps_on}
 use Rattle.actor_world.proofs.Own.{DueFacts, OwnFacts, own_dues, own_frees, own_keeps}
@@ -58,7 +57,7 @@ use Rattle.actor_world.proofs.Settles.{awaited_settled, queue_is_settled}
 use Rattle.actor_world.proofs.ShapeSteps.{intervals_kept, shape_kept}
 use Rattle.actor_world.proofs.Shorts.{CanBeShort, HoldLaws, never_short, short_on}
 use Rattle.actor_world.proofs.StepTurns.{TurnOf, by_turn, call_of}
-use Rattle.actor_world.proofs.Turns.{HeldWord, Turn, after_turn, changer_key, room_group}
+use Rattle.actor_world.proofs.Turns.{HeldWord, after_turn, changer_key, room_group}
 use Rattle.actor_world.proofs.TurnsFound.{Laws, table_now}
 use Rattle.actor_world.proofs.Within.{Within, within}
 use Rattle.actor_world.proofs.WordTurns.{table_after}

@@ -1,6 +1,5 @@
 -- Whoever holds a lock gives it back after a bounded number of its own steps.
 use Rattle.std.proofs.Common.{◌≡◌, ◌<◌, ◌≤◌, ◌+◌, ◌*◌, inl, inr, ℕ, zero, suc, Bool, true, false, List, [], ◌∷◌, ◌⊎◌, Option, None, Some, IsSomeAnd, Result, Ok, Err, if◌then◌else◌, length, refl, sym, ap, subst, ◌∙◌, arith}
-use Rattle.std.proofs.lemmas.Option.{none-some, same_Some}
 use Rattle.std.proofs.lemmas.Bool.{false≢true, true≢false}
 use Rattle.log_store.specs.declared.fault.Progress.{Progress}
 use Rattle.log_store.specs.declared.fault.Progress.TheVariants.{More, Ended}
@@ -8,25 +7,22 @@ use Rattle.log_store.specs.declared.fault.StoreFault.{StoreFault}
 use Rattle.log_store.specs.declared.fault.StoreFault.TheVariants as faults
 use Rattle.log_store.specs.declared.store.Store.{Store}
 use Rattle.log_store.specs.State.{State, state_of}
-use Rattle.log_store.specs.Outcome.{steps_left}
 use Rattle.log_store.specs.Actions.{IsStep}
 use Rattle.life_table.specs.declared.key.Key.{Key}
 use Rattle.life_table.specs.declared.types.Call.{Call}
 use Rattle.life_table.specs.declared.types.Call.TheVariants as call
-use Rattle.life_table.specs.declared.types.Reply.{Reply}
 use Rattle.life_table.specs.declared.types.Reply.TheVariants as reply
 use Rattle.life_table.specs.declared.types.Event.{Event}
 use Rattle.life_table.specs.declared.table.Table.{Table}
 use Rattle.life_table.specs.Table.{row_of}
-use Rattle.slot_words.specs.declared.word.Word.{Word}
 use Rattle.actor_world.specs.declared.memory.Place.{Place}
 use Rattle.actor_world.specs.declared.memory.Place.TheVariants as place
 use Rattle.actor_world.specs.declared.memory.Doing.{Doing}
 use Rattle.actor_world.specs.declared.memory.Actor.{Actor}
 use Rattle.actor_world.specs.declared.memory.Memory.{Memory}
-use Rattle.actor_world.specs.Bounds.{IsInLock, StepsInLock, doing_left, lock_left, open_left, pin_left, steps_in_lock}
+use Rattle.actor_world.specs.Bounds.{IsInLock, StepsInLock, doing_left, lock_left, pin_left, steps_in_lock}
 use Rattle.actor_world.specs.Caches.{actor_at, cached_word, idle_actor, same_word, with_actor}
-use Rattle.actor_world.specs.Moves.{is_log_call, is_mark_due, lies_in_group, lies_in_log, links_of, stands_at, with_inodes, with_rows_to_free}
+use Rattle.actor_world.specs.Moves.{is_mark_due, lies_in_group, lies_in_log, links_of, stands_at, with_inodes, with_rows_to_free}
 use Rattle.actor_world.specs.World.{World}
 use Rattle.actor_world.specs.Steps.{DiskFace, HomeStep, IsAdvanced, Step, StepOf, SyncStep, Telling, answered_holder, progress_answer}
 use Rattle.actor_world.specs.Invariant.{Invariant}
@@ -35,9 +31,9 @@ use Rattle.actor_world.proofs.Kept.{AllLaws, invariant_kept}
 use Rattle.actor_world.proofs.Lists.{read_same}
 use Rattle.actor_world.proofs.Locks.{log_lies}
 use Rattle.actor_world.proofs.Sights.{same_word_self}
-use Rattle.actor_world.proofs.StepTurns.{Stepped, call_of, stepped, turn_from}
+use Rattle.actor_world.proofs.StepTurns.{call_of, stepped, turn_from}
 use Rattle.actor_world.proofs.Turns.{Turn, after_turn, changes, copies, frees_head, frees_one, goes_on, grow_refuses, grows, installs, installs_made, kills, kills_head, locked_crowded, locked_installs, locked_pins, locked_stale, makes, makes_none, marks, passes, pin_misses_locked, pins_locked, refuses, retires, retires_none}
-use Rattle.actor_world.proofs.Within.{Within, within}
+use Rattle.actor_world.proofs.Within.{within}
 
 -- ---- locks of groups
 

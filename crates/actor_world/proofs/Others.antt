@@ -1,7 +1,6 @@
 -- What is so of an actor in a call stays so after a turn of another.
-use Rattle.std.proofs.Common.{◌≡◌, ◌≢◌, ◌<◌, ◌≤◌, ◌+◌, ◌-◌, ◌==◌, ◌/◌, ◌++◌, ◌⊎◌, inl, inr, ℕ, Bool, true, false, List, [], ◌∷◌, Option, None, Some, IsSome, IsSomeAnd, if◌then◌else◌, length, slice_get, refl, sym, ap, subst, ◌∙◌, arith}
+use Rattle.std.proofs.Common.{◌≡◌, ◌≢◌, ◌≤◌, ◌+◌, ◌-◌, ◌==◌, ◌/◌, ◌⊎◌, inl, inr, ℕ, true, false, List, [], ◌∷◌, Option, None, Some, IsSome, IsSomeAnd, if◌then◌else◌, refl, sym, ap, subst, ◌∙◌, arith}
 use Rattle.std.specs.Prelude.{◌↔◌}
-use Rattle.std.specs.List.{AllByRecursion}
 use Rattle.std.proofs.lemmas.Option.{none-some, same_Some}
 use Rattle.std.proofs.lemmas.Bool.{cases_eq, eq-eqb, ne_eqb, false≢true, true≢false}
 use Rattle.life_limits.specs.declared.TheConstants.{GROUP_NUMBERS}
@@ -10,24 +9,21 @@ use Rattle.life_table.specs.declared.types.Row.{Row}
 use Rattle.life_table.specs.declared.types.Call.{Call}
 use Rattle.life_table.specs.declared.types.Call.TheVariants as call
 use Rattle.life_table.specs.declared.types.Event.{Event}
-use Rattle.life_table.specs.declared.types.Event.TheVariants.{Freed}
 use Rattle.life_table.specs.declared.types.Entry.{Entry}
-use Rattle.life_table.specs.declared.table.Inode.{Inode}
 use Rattle.life_table.specs.declared.table.Table.{Table}
 use Rattle.life_table.specs.Table.{group_number, inode_of, row_in_life, row_of}
 use Rattle.life_table.specs.Legal.{Awaits, Short}
-use Rattle.life_table.specs.History.{IsHeld, key_of}
+use Rattle.life_table.specs.History.{key_of}
 use Rattle.actor_world.specs.declared.memory.Place.{Place}
 use Rattle.actor_world.specs.declared.memory.Place.TheVariants as place
 use Rattle.actor_world.specs.declared.memory.Slot.{Slot}
-use Rattle.actor_world.specs.declared.memory.Residence.TheVariants.{Clean}
 use Rattle.actor_world.specs.declared.memory.Memory.{Memory}
 use Rattle.actor_world.specs.Caches.{cached_word, slot_at}
 use Rattle.actor_world.specs.Moves.{group_of_call, head_group, lies_in_group, stands_at}
 use Rattle.actor_world.specs.World.{History, told_if}
 use Rattle.actor_world.specs.Words.{DueHolds, any_row, due_at, due_number, install, kill, mark}
 use Rattle.actor_world.specs.Licence.{table_at}
-use Rattle.actor_world.specs.Invariant.{FreesAreRight, HasFreed, HasRow, HeadIsPassed, IsCleanIn, MayBeFreed, NoneLeft, PlaceKeeps, RowsLeft, first_key, opened_key}
+use Rattle.actor_world.specs.Invariant.{FreesAreRight, HasFreed, HasRow, HeadIsPassed, IsCleanIn, MayBeFreed, PlaceKeeps, RowsLeft, first_key, opened_key}
 use Rattle.actor_world.proofs.Frames.{Framed, Repinned, Repins, Stays}
 use Rattle.actor_world.proofs.Lists.{all_weaker, get_kept}
 

@@ -1,24 +1,22 @@
 -- What is so of an actor in a call is so again after its own turn.
 use Rattle.std.proofs.Common.{◌≡◌, ◌≢◌, ◌<◌, ◌≤◌, ◌+◌, ◌-◌, ◌*◌, ◌%◌, ◌==◌, ◌/◌, ◌++◌, inl, inr, ℕ, zero, suc, Bool, true, false, List, [], ◌∷◌, Option, None, Some, IfSome, IsSome, IsSomeAnd, if◌then◌else◌, length, slice_get, slice_index_or, refl, sym, ap, subst, ◌∙◌, arith}
 use Rattle.std.specs.List.{AllByRecursion, Contains}
-use Rattle.std.proofs.lemmas.Option.{none-some, same_Some, slice_get_within}
-use Rattle.std.proofs.lemmas.Bool.{cases_Bool, cases_eq, cases_lt, eq-eqb, eqb-true, ne_eqb, false≢true, true≢false}
-use Rattle.life_limits.specs.declared.TheConstants.{BLOCK_SECTORS, GROUP_NUMBERS, MAX_BLOCKS}
+use Rattle.std.proofs.lemmas.Option.{none-some, same_Some}
+use Rattle.std.proofs.lemmas.Bool.{cases_Bool, cases_eq, cases_lt, eq-eqb, eqb-true, ne_eqb, false≢true}
+use Rattle.life_limits.specs.declared.TheConstants.{BLOCK_SECTORS, GROUP_NUMBERS}
 use Rattle.life_table.specs.declared.key.Key.{Key}
 use Rattle.life_table.specs.declared.types.Row.{Row}
 use Rattle.life_table.specs.declared.types.Call.{Call}
 use Rattle.life_table.specs.declared.types.Call.TheVariants as call
-use Rattle.life_table.specs.declared.types.Reply.{Reply}
 use Rattle.life_table.specs.declared.types.Reply.TheVariants as reply
 use Rattle.life_table.specs.declared.types.Event.{Event}
-use Rattle.life_table.specs.declared.types.Event.TheVariants.{Called, Freed}
+use Rattle.life_table.specs.declared.types.Event.TheVariants.{Freed}
 use Rattle.life_table.specs.declared.types.Entry.{Entry}
 use Rattle.life_table.specs.declared.table.Inode.{Inode}
 use Rattle.life_table.specs.declared.table.Table.{Table}
-use Rattle.life_table.specs.Table.{group_at, group_number, in_use, inode_in, inode_of, row_in_life, row_of, with_inode, with_row}
+use Rattle.life_table.specs.Table.{group_at, group_number, in_use, inode_in, inode_of, row_of, with_row}
 use Rattle.life_table.specs.Legal.{Awaits, IsNextKey, Permits, Short, after_call, freed, made_row, prepare, row_after, with_changed}
 use Rattle.life_table.specs.WellFormed.{IsTable}
-use Rattle.slot_words.specs.declared.word.Word.{Word}
 use Rattle.actor_world.specs.declared.memory.Place.{Place}
 use Rattle.actor_world.specs.declared.memory.Place.TheVariants as place
 use Rattle.actor_world.specs.declared.memory.Residence.TheVariants.{Absent, Clean, Dirty}
@@ -26,16 +24,16 @@ use Rattle.actor_world.specs.declared.memory.Slot.{Slot}
 use Rattle.actor_world.specs.declared.memory.GroupCache.{GroupCache}
 use Rattle.actor_world.specs.declared.memory.Memory.{Memory}
 use Rattle.actor_world.specs.Caches.{cache_at, cached_word, clean_numbers, clean_of, first_slot, is_clean, locked, make_dirty, no_cache, slot_at, with_slot}
-use Rattle.actor_world.specs.Moves.{awaiting_of, group_of_call, is_awaiting_row, is_log_call, is_mark_due, is_short, lies_in_group, links_of, makes_unlinked, place_after_change, rows_to_free, sets_mark, stands_at, with_inodes, with_rows_to_free}
+use Rattle.actor_world.specs.Moves.{awaiting_of, group_of_call, is_awaiting_row, is_log_call, is_mark_due, is_short, lies_in_group, links_of, makes_unlinked, place_after_change, sets_mark, stands_at, with_inodes, with_rows_to_free}
 use Rattle.actor_world.specs.World.{History, told_if}
-use Rattle.actor_world.specs.Words.{Due, DueHolds, DeadSays, InstallDue, KillDue, LiveSays, MarkDue, WordSays, any_row, due_at, nothing, says}
+use Rattle.actor_world.specs.Words.{DueHolds, DeadSays, InstallDue, KillDue, LiveSays, MarkDue, WordSays, any_row, due_at, nothing, says}
 use Rattle.actor_world.specs.Licence.{table_at}
-use Rattle.actor_world.specs.Invariant.{FreesAreRight, HasFreed, HasRow, HeadIsPassed, IsCleanIn, IsShaped, KeysAscend, MayBeFreed, NoneLeft, NumbersAscend, PlaceKeeps, RowsLeft, first_key}
+use Rattle.actor_world.specs.Invariant.{FreesAreRight, HasFreed, HasRow, IsCleanIn, IsShaped, KeysAscend, MayBeFreed, NumbersAscend, PlaceKeeps, RowsLeft, first_key}
 use Rattle.actor_world.specs.Settled.{IsSettled}
 use Rattle.actor_world.proofs.Effects.{slots_stay}
 use Rattle.actor_world.proofs.Frames.{inode_is, made_number}
-use Rattle.actor_world.proofs.Lists.{all_read, all_weaker, get_last, read_past, the_some}
-use Rattle.actor_world.proofs.Geometry.{IsPlaced, is_placed}
+use Rattle.actor_world.proofs.Lists.{all_read, get_last, read_past, the_some}
+use Rattle.actor_world.proofs.Geometry.{is_placed}
 use Rattle.actor_world.proofs.LiveWords.{any_row_is, has_inode}
 use Rattle.actor_world.proofs.Locks.{maker_call_group, room_call_group}
 use Rattle.actor_world.proofs.Looks.{row_other}
@@ -45,7 +43,7 @@ use Rattle.actor_world.proofs.Settles.{awaits_from, awaits_to, bare_before, past
 use Rattle.actor_world.proofs.ShapeSteps.{size_made}
 use Rattle.actor_world.proofs.Shorts.{short_is, short_not}
 use Rattle.actor_world.proofs.Slots.{live_has_slot, placed_has_slot, slot_other, slot_same}
-use Rattle.actor_world.proofs.Turns.{CanLock, HasSlot, HeldWord, Turn, changer_key, changes, finds_row, frees_head, frees_one, goes_on, kills, kills_head, load_pins, locked_installs, locked_pins, locks_reclaim, locks_short, maker_group, makes, next_none, next_row, pin_misses_locked, retires, retires_none, room_group}
+use Rattle.actor_world.proofs.Turns.{HasSlot, HeldWord, Turn, changer_key, changes, finds_row, frees_head, frees_one, goes_on, kills, kills_head, load_pins, locked_installs, locked_pins, locks_reclaim, locks_short, maker_group, makes, next_none, next_row, pin_misses_locked, retires, retires_none}
 use Rattle.actor_world.proofs.TurnsFound.{live_row}
 use Rattle.actor_world.proofs.WordSteps.{changed_row, freed_bare}
 use Rattle.actor_world.proofs.WordTurns.{log_due, table_after}

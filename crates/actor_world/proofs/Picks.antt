@@ -1,14 +1,14 @@
 -- The keys of those inodes of a group that meet a test, ascending.
-use Rattle.std.proofs.Common.{◌≡◌, ◌<◌, ◌≤◌, ◌+◌, ◌-◌, ◌*◌, ◌/◌, ◌%◌, ◌==◌, ◌++◌, ℕ, Bool, zero, suc, true, false, List, [], ◌∷◌, Option, None, Some, if◌then◌else◌, length, slice_get, refl, sym, ap, subst, ◌∙◌, arith, inl, inr}
+use Rattle.std.proofs.Common.{◌≡◌, ◌<◌, ◌≤◌, ◌+◌, ◌-◌, ◌*◌, ◌/◌, ◌%◌, ◌==◌, ◌++◌, ℕ, Bool, zero, suc, true, false, List, [], ◌∷◌, Some, if◌then◌else◌, length, slice_get, refl, sym, ap, subst, ◌∙◌, arith, inl, inr}
 use Rattle.std.specs.List.{AllByRecursion, Contains, flat_map, range_with_len}
 use Rattle.std.proofs.lemmas.Option.{none-some, same_Some, slice_get_within}
-use Rattle.std.proofs.lemmas.Bool.{cases_Bool, cases_lt, eqb-true, eq-eqb}
-use Rattle.life_limits.specs.declared.TheConstants.{BLOCK_SECTORS, CHUNK_INODES, GROUP_NUMBERS, MAX_BLOCKS}
+use Rattle.std.proofs.lemmas.Bool.{cases_lt, eqb-true, eq-eqb}
+use Rattle.life_limits.specs.declared.TheConstants.{CHUNK_INODES, GROUP_NUMBERS, MAX_BLOCKS}
 use Rattle.life_table.specs.declared.key.Key.{Key}
 use Rattle.life_table.specs.declared.table.Inode.{Inode}
 use Rattle.life_table.specs.declared.table.Chunk.{Chunk}
 use Rattle.life_table.specs.declared.table.Table.{Table}
-use Rattle.life_table.specs.Table.{Group, group_at, inode_in, inode_of, set_inode, start_of}
+use Rattle.life_table.specs.Table.{Group, group_at, inode_in, start_of}
 use Rattle.life_table.specs.Space.{chunk_blocks, free_keys, inode_blocks, is_free, keys_from, times, used}
 use Rattle.life_table.specs.WellFormed.{ChunksAscend, IsChunk, IsDataBlock, IsGroup, IsTable}
 use Rattle.actor_world.specs.Moves.{awaiting_from, awaiting_of, is_awaiting_row}

@@ -3,22 +3,19 @@ use Rattle.std.proofs.Common.{◌≡◌, ◌≢◌, ◌<◌, ◌≤◌, ◌-◌,
 use Rattle.std.specs.List.{All, AllByRecursion, Contains}
 use Rattle.std.proofs.lemmas.List.Elements.{All-append, All-contains_itself, Contains-append_left}
 use Rattle.std.proofs.lemmas.Option.{none-some, same_Some}
-use Rattle.std.proofs.lemmas.Bool.{cases_Bool, cases_eq, eq-eqb, ne_eqb, false≢true, true≢false}
+use Rattle.std.proofs.lemmas.Bool.{cases_eq, eq-eqb, ne_eqb, false≢true, true≢false}
 use Rattle.life_limits.specs.declared.TheConstants.{GROUP_NUMBERS}
 use Rattle.life_table.specs.declared.key.Key.{Key}
-use Rattle.life_table.specs.declared.types.Row.{Row}
 use Rattle.life_table.specs.declared.types.Call.{Call}
 use Rattle.life_table.specs.declared.types.Call.TheVariants as call
 use Rattle.life_table.specs.declared.types.Reply.{Reply}
 use Rattle.life_table.specs.declared.types.Reply.TheVariants as reply
 use Rattle.life_table.specs.declared.types.Event.{Event}
-use Rattle.life_table.specs.declared.types.Event.TheVariants.{Called, Freed}
+use Rattle.life_table.specs.declared.types.Event.TheVariants.{Called}
 use Rattle.life_table.specs.declared.types.Entry.{Entry}
 use Rattle.life_table.specs.declared.table.Table.{Table}
 use Rattle.life_table.specs.Table.{inode_of, row_of}
-use Rattle.life_table.specs.Legal.{row_after}
-use Rattle.life_table.specs.History.{Happens, IsHeld, after_entries, after_event, holds, key_of}
-use Rattle.slot_words.specs.declared.word.Word.{Word}
+use Rattle.life_table.specs.History.{IsHeld, after_entries, after_event, holds, key_of}
 use Rattle.actor_world.specs.declared.memory.Place.{Place}
 use Rattle.actor_world.specs.declared.memory.Place.TheVariants as place
 use Rattle.actor_world.specs.declared.memory.Doing.{Doing}
@@ -30,7 +27,6 @@ use Rattle.actor_world.specs.Words.{DueHolds, any_row, due_at, due_number}
 use Rattle.actor_world.specs.Licence.{queue_after, queue_after_own, queue_at, queue_from}
 use Rattle.actor_world.specs.Invariant.{DoingIsRight, HeadIsPassed, PartOfQueue, QueueIsRight, due_of_actor, due_of_doing, due_of_holder, first_key, is_gc, is_gc_call}
 use Rattle.actor_world.specs.Settled.{IsPast, IsSettled}
-use Rattle.actor_world.proofs.CommitSteps.{leads_after}
 use Rattle.actor_world.proofs.Holding.{two_hold}
 use Rattle.actor_world.proofs.LegalSteps.{turn_by, turn_happens}
 use Rattle.actor_world.proofs.Lists.{all_contains}

@@ -27,7 +27,7 @@ use Rattle.actor_world.proofs.StepTurns.{by_turn}
 use Rattle.actor_world.proofs.Within.{within}
 use Rattle.actor_world.proofs.Lists.{the_some}
 use Rattle.actor_world.proofs.Prepares.{LowestIsFree}
-use Rattle.actor_world.proofs.Settles.{HasLived, gone_past, lived_from, past_gone, permitted_at, settled_from, take_whole}
+use Rattle.actor_world.proofs.Settles.{HasLived, lived_from, past_gone, permitted_at, settled_from, take_whole}
 use Rattle.actor_world.proofs.TurnsFound.{Laws}
 
 stale_none : (t : Table) (key : Key) (answer : Reply) → KeyReplies t None (call.OpenKey key) answer → answer ≡ reply.Stale

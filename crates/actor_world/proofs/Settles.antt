@@ -1,9 +1,9 @@
 -- A key that is settled stays so, whatever legally happens.
-use Rattle.std.proofs.Common.{◌≡◌, ◌≢◌, ◌<◌, ◌≤◌, ◌+◌, ◌*◌, ◌/◌, ◌%◌, ◌==◌, ◌&&◌, ◌++◌, ◌⊎◌, inl, inr, ℕ, zero, suc, Bool, true, false, List, [], ◌∷◌, Option, None, Some, IsSome, IsSomeAnd, is_none, if◌then◌else◌, nat_lt, length, slice_get, slice_set, take, drop, append-nil, append_assoc, refl, sym, ap, subst, ◌∙◌, arith}
+use Rattle.std.proofs.Common.{◌≡◌, ◌<◌, ◌≤◌, ◌+◌, ◌/◌, ◌%◌, ◌==◌, ◌++◌, ◌⊎◌, inl, inr, ℕ, zero, suc, true, false, List, [], ◌∷◌, Option, None, Some, IsSome, IsSomeAnd, is_none, if◌then◌else◌, nat_lt, length, slice_get, slice_set, take, drop, append-nil, append_assoc, refl, sym, ap, subst, ◌∙◌, arith}
 use Rattle.std.specs.List.{AllByRecursion}
 use Rattle.std.proofs.lemmas.List.{take-append-drop}
 use Rattle.std.proofs.lemmas.Option.{none-some, same_Some}
-use Rattle.std.proofs.lemmas.Bool.{and_parts, cases_eq, cases_lt, eq-eqb, eqb-true, ne_eqb, true≢false}
+use Rattle.std.proofs.lemmas.Bool.{and_parts, cases_eq, eq-eqb, eqb-true, ne_eqb, true≢false}
 use Rattle.life_limits.specs.declared.TheConstants.{CHUNK_INODES, GROUP_NUMBERS, MAX_GENERATION}
 use Rattle.life_table.specs.declared.key.Key.{Key}
 use Rattle.life_table.specs.declared.types.Row.{Row}
@@ -32,7 +32,7 @@ use Rattle.actor_world.proofs.Holding.{legal_push}
 use Rattle.actor_world.proofs.Lists.{all_push, all_weaker, set-length, the_some}
 use Rattle.actor_world.proofs.Looks.{group_same, inode_other, inode_same}
 use Rattle.actor_world.proofs.Picks.{AreLaid, IsLaid, free_picks, picks, picks_all, table_laid}
-use Rattle.actor_world.proofs.Prepares.{LowestIsFree, StaysOrComes, made_is, prepare_stays}
+use Rattle.actor_world.proofs.Prepares.{LowestIsFree, made_is, prepare_stays}
 use Rattle.actor_world.proofs.TurnsFound.{Laws}
 use Rattle.actor_world.proofs.WordSteps.{changed_other}
 

@@ -1,9 +1,9 @@
 -- Whether a call is short, and that it stays so while another holds no lock of its group.
-use Rattle.std.proofs.Common.{◌≡◌, ◌≢◌, ◌<◌, ◌≤◌, ◌&&◌, ◌/◌, ◌⊎◌, inl, inr, ℕ, true, false, List, Option, None, Some, is_none, nat_lt, length, refl, sym, ap, subst, ◌∙◌, arith}
+use Rattle.std.proofs.Common.{◌≡◌, ◌≢◌, ◌<◌, ◌≤◌, ◌/◌, ◌⊎◌, inl, inr, ℕ, true, false, List, Option, None, Some, is_none, nat_lt, length, refl, sym, ap, subst, ◌∙◌, arith}
 use Rattle.std.specs.Prelude.{◌↔◌}
 use Rattle.std.specs.Cmp.Derive.{both_true}
 use Rattle.std.proofs.lemmas.Option.{none-some, same_Some}
-use Rattle.std.proofs.lemmas.Bool.{and_parts, cases_eq, ltb-true, false≢true, true≢false}
+use Rattle.std.proofs.lemmas.Bool.{and_parts, ltb-true, false≢true, true≢false}
 use Rattle.life_limits.specs.declared.TheConstants.{GROUP_NUMBERS}
 use Rattle.life_table.specs.declared.key.Key.{Key}
 use Rattle.life_table.specs.declared.types.Row.{Row}
@@ -12,7 +12,6 @@ use Rattle.life_table.specs.declared.types.Call.TheVariants as call
 use Rattle.life_table.specs.declared.types.Reply.{Reply}
 use Rattle.life_table.specs.declared.types.Reply.TheVariants as reply
 use Rattle.life_table.specs.declared.types.Event.{Event}
-use Rattle.life_table.specs.declared.types.Event.TheVariants.{Called}
 use Rattle.life_table.specs.declared.table.Inode.{Inode}
 use Rattle.life_table.specs.declared.table.Table.{Table}
 use Rattle.life_table.specs.Table.{group_at, group_number, row_of, with_inode, with_row}
@@ -21,7 +20,7 @@ use Rattle.life_table.specs.Legal.{IsNoHold, IsOpen, KeyReplies, Permits, Short,
 use Rattle.life_table.specs.History.{after_event, changed, closed, is_change}
 use Rattle.actor_world.specs.declared.memory.Place.{Place}
 use Rattle.actor_world.specs.declared.memory.Memory.{Memory}
-use Rattle.actor_world.specs.Moves.{group_of_call, is_log_call, is_short}
+use Rattle.actor_world.specs.Moves.{is_log_call, is_short}
 use Rattle.actor_world.specs.Steps.{makes_change}
 use Rattle.actor_world.proofs.LicenceSteps.{grow_short}
 use Rattle.actor_world.proofs.Frames.{made_number}
@@ -29,7 +28,7 @@ use Rattle.actor_world.proofs.Lists.{the_some}
 use Rattle.actor_world.proofs.Locks.{changer_group, lock_of, maker_call_group, room_call_group}
 use Rattle.actor_world.proofs.Looks.{group_other}
 use Rattle.actor_world.proofs.ShapeSteps.{size_event}
-use Rattle.actor_world.proofs.Turns.{Turn, changer_key, changes, frees_head, frees_one, grow_refuses, grows, is_answered, maker_group, makes, makes_none, reads, refuses, room_group}
+use Rattle.actor_world.proofs.Turns.{Turn, changer_key, changes, frees_head, frees_one, grow_refuses, grows, is_answered, maker_group, makes, makes_none, refuses, room_group}
 use Rattle.actor_world.proofs.WordTurns.{table_after}
 use Rattle.actor_world.proofs.WordsStill.{WordFacts}
 

@@ -1,8 +1,8 @@
 -- What is left of a whole call at each of its places, in terms of whole lines; a turn leaves it.
-use Rattle.std.proofs.Common.{◌≡◌, ◌<◌, ◌+◌, ◌==◌, ◌&&◌, ◌++◌, ℕ, zero, suc, Bool, true, false, List, [], ◌∷◌, Option, None, Some, IsSomeAnd, is_some, if◌then◌else◌, length, map, slice_index_or, slice_set, refl, sym, ap, subst, ◌∙◌, arith}
+use Rattle.std.proofs.Common.{◌≡◌, ◌<◌, ◌+◌, ◌++◌, ℕ, true, false, List, [], ◌∷◌, Option, None, Some, is_some, if◌then◌else◌, length, slice_index_or, slice_set, refl, sym, ap, subst, ◌∙◌, arith}
 use Rattle.std.proofs.lemmas.List.{set-get_or}
 use Rattle.std.proofs.lemmas.Option.{none-some, same_Some}
-use Rattle.std.proofs.lemmas.Bool.{false≢true, true≢false}
+use Rattle.std.proofs.lemmas.Bool.{true≢false}
 use Rattle.life_table.specs.declared.key.Key.{Key}
 use Rattle.life_table.specs.declared.types.Row.{Row}
 use Rattle.life_table.specs.declared.types.Call.{Call}
@@ -10,16 +10,16 @@ use Rattle.life_table.specs.declared.types.Call.TheVariants as call
 use Rattle.life_table.specs.declared.types.Reply.{Reply}
 use Rattle.life_table.specs.declared.types.Reply.TheVariants as reply
 use Rattle.life_table.specs.declared.types.Event.{Event}
-use Rattle.life_table.specs.declared.types.Event.TheVariants.{Called, Freed}
+use Rattle.life_table.specs.declared.types.Event.TheVariants.{Called}
 use Rattle.life_table.specs.declared.table.Table.{Table}
 use Rattle.life_table.specs.Table.{row_of}
 use Rattle.life_table.specs.Legal.{Awaits, Permits, after_call, freed}
 use Rattle.life_table.specs.Replies.{reply_of}
-use Rattle.life_table.specs.History.{after_event, changed, is_change}
+use Rattle.life_table.specs.History.{changed, is_change}
 use Rattle.actor_world.specs.declared.memory.Place.{Place}
 use Rattle.actor_world.specs.declared.memory.Place.TheVariants as place
 use Rattle.actor_world.specs.declared.memory.Memory.{Memory}
-use Rattle.actor_world.specs.Caches.{cached_word, clean_of}
+use Rattle.actor_world.specs.Caches.{cached_word}
 use Rattle.actor_world.specs.Moves.{awaiting_of, is_awaiting_row, is_last_release, is_log_call, is_mark_due, is_short, links_of, rows_to_free, with_inodes, with_rows_to_free}
 use Rattle.actor_world.specs.Lines.{LineResult, LinesState, answered_line, by_table, closed_line, free_row, free_rows, gc_line, line, made_room}
 use Rattle.actor_world.proofs.EntrySteps.{EndTurn, Gets, Had, end_turn}

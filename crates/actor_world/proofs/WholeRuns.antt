@@ -1,50 +1,42 @@
 -- A whole call comes to what whole lines say.
-use Rattle.std.proofs.Common.{◌≡◌, ◌≢◌, ◌<◌, ◌≤◌, ◌+◌, ◌++◌, ℕ, zero, suc, Bool, true, false, List, [], ◌∷◌, Option, None, Some, if◌then◌else◌, length, map, slice_index_or, slice_set, refl, sym, ap, subst, ◌∙◌, arith}
-use Rattle.std.specs.List.{filter}
+use Rattle.std.proofs.Common.{◌≡◌, ◌<◌, ◌+◌, ◌++◌, ℕ, zero, suc, true, false, List, [], ◌∷◌, Option, None, Some, if◌then◌else◌, length, map, slice_index_or, slice_set, refl, sym, ap, subst, ◌∙◌, arith}
 use Rattle.std.proofs.lemmas.List.{get_or-map, length-map, map-set, set-get_or}
 use Rattle.std.proofs.lemmas.Option.{none-some, same_Some}
-use Rattle.std.proofs.lemmas.Bool.{false≢true, true≢false}
+use Rattle.std.proofs.lemmas.Bool.{true≢false}
 use Rattle.life_table.specs.declared.key.Key.{Key}
 use Rattle.life_table.specs.declared.types.Call.{Call}
 use Rattle.life_table.specs.declared.types.Call.TheVariants as call
 use Rattle.life_table.specs.declared.types.Reply.{Reply}
-use Rattle.life_table.specs.declared.types.Reply.TheVariants as reply
 use Rattle.life_table.specs.declared.types.Event.{Event}
-use Rattle.life_table.specs.declared.types.Event.TheVariants.{Called}
 use Rattle.life_table.specs.declared.types.Entry.{Entry}
 use Rattle.life_table.specs.declared.table.Table.{Table}
-use Rattle.life_table.specs.Table.{row_of}
-use Rattle.life_table.specs.Legal.{CanMake, IsOfTable, Legal, Permits, after_call}
+use Rattle.life_table.specs.Legal.{CanMake, IsOfTable, Legal, after_call}
 use Rattle.life_table.specs.Replies.{reply_of}
-use Rattle.life_table.specs.History.{IsHeld, LegalHistory, changes, is_change, key_of}
-use Rattle.life_table.specs.WellFormed.{IsTable}
+use Rattle.life_table.specs.History.{IsHeld, changes, is_change, key_of}
 use Rattle.actor_world.specs.declared.memory.Place.{Place}
-use Rattle.actor_world.specs.declared.memory.Place.TheVariants as place
 use Rattle.actor_world.specs.declared.memory.Doing.{Doing}
 use Rattle.actor_world.specs.declared.memory.Actor.{Actor}
 use Rattle.actor_world.specs.declared.memory.Memory.{Memory}
-use Rattle.actor_world.specs.Caches.{actor_at, cached_word, idle_actor, with_actor}
-use Rattle.actor_world.specs.Moves.{first_place, is_awaiting_row, is_last_release, is_log_call, stands_at}
+use Rattle.actor_world.specs.Caches.{actor_at, idle_actor, with_actor}
+use Rattle.actor_world.specs.Moves.{first_place, is_log_call, stands_at}
 use Rattle.actor_world.specs.World.{History, IsBegun, World, beginning, told_if}
-use Rattle.actor_world.specs.Steps.{DiskFace, Step, Telling}
-use Rattle.actor_world.specs.Words.{due_at, due_number, nothing}
+use Rattle.actor_world.specs.Steps.{DiskFace, Telling}
+use Rattle.actor_world.specs.Words.{due_at, due_number}
 use Rattle.actor_world.specs.Lines.{LineResult, LinesState, line}
-use Rattle.actor_world.specs.WholeCalls.{IsWholeCall, StepsToEnd, lines_of}
-use Rattle.actor_world.specs.Invariant.{CallIsRight, GroupIsThere, HasEntry, Invariant, IsShaped, due_of_actor, first_key, reply_at}
+use Rattle.actor_world.specs.WholeCalls.{IsWholeCall, StepsToEnd, lines_state}
+use Rattle.actor_world.specs.Invariant.{CallIsRight, GroupIsThere, HasEntry, Invariant, due_of_actor, first_key, reply_at}
 use Rattle.actor_world.proofs.Begins.{begin_kept}
 use Rattle.actor_world.proofs.EachTurn.{in_call}
 use Rattle.actor_world.proofs.Effects.{effect_actors, effect_of}
 use Rattle.actor_world.proofs.EntrySteps.{EndTurn, Gets, Had, end_turn, entry_made}
-use Rattle.actor_world.proofs.HeldWords.{held_word}
 use Rattle.actor_world.proofs.Kept.{AllLaws, invariant_kept, own_line}
 use Rattle.actor_world.proofs.Lists.{read_same}
 use Rattle.actor_world.proofs.Queues.{last_release}
 use Rattle.actor_world.proofs.StepTurns.{TurnOf, close_due_not, stepped, turn_from}
-use Rattle.actor_world.proofs.Turns.{HeldWord, Turn, after_turn}
+use Rattle.actor_world.proofs.Turns.{after_turn}
 use Rattle.actor_world.proofs.TurnsFound.{Laws}
-use Rattle.actor_world.proofs.WholeLines.{LineFacts, answered_rest, changes_after, ends_rest, goes_rest, lines_after, lines_at, permits_of, reply_in, rest}
+use Rattle.actor_world.proofs.WholeLines.{LineFacts, changes_after, ends_rest, goes_rest, lines_after, lines_at, permits_of, reply_in, rest}
 use Rattle.actor_world.proofs.Within.{Within, within}
-use Rattle.actor_world.proofs.WordTurns.{table_after}
 use Rattle.actor_world.proofs.WordsKept.{told_table}
 
 -- a call has one reply
@@ -115,7 +107,7 @@ lines_told h m a made begin later event next memory actors =
 
 record LineEnd {D : Type 0} (a begin : ℕ) (made : Call) (r : LineResult) (new : World D) : Type 0 where
   entry : HasEntry new.history.entries new.history.froms a begin made (Some r.reply)
-  state : lines_of new ≡ r.state
+  state : lines_state new ≡ r.state
 
 whole_entry : (h : History) (a : ℕ) (made : Call) (begin : ℕ) (was : Option Reply) (event : Option Event) → length h.froms ≡ length h.entries → (e : EndTurn made was event) → HasEntry h.entries h.froms a begin made was
     → HasEntry (told_if a begin event h).entries (told_if a begin event h).froms a begin made (Some (reply_in e))
@@ -139,17 +131,17 @@ line_end {D = D} start h m a made at begin q later event memory new turn facts h
 line_on : {D : Type 0} (start : Table) (h : History) (m : Memory) (a : ℕ) (made : Call) (at : Place) (begin : ℕ) (q later : List Key) (event : Option Event) (onward : Place) (memory : Memory) (next new : World D)
     → TurnOf start h m a made at begin q event (Some onward) later memory → LineFacts h.table m (map (λ (actor : Actor). actor.queue) m.actors) a made q
     → next.history ≡ told_if a begin event h → next.memory ≡ with_actor a (after_turn made begin (Some onward) later) memory
-    → LineEnd a begin made (rest a made onward (lines_of next)) new → LineEnd a begin made (rest a made at (lines_in h m)) new
+    → LineEnd a begin made (rest a made onward (lines_state next)) new → LineEnd a begin made (rest a made at (lines_in h m)) new
 line_on {D = D} start h m a made at begin q later event onward memory next new turn facts history_is memory_is end =
     let same = goes_rest (map (λ (actor : Actor). actor.queue) m.actors) (length (changes h.entries)) facts (permits_of turn.turn) turn.turn in
-    let lines : lines_of next ≡ lines_after h.table (map (λ (actor : Actor). actor.queue) m.actors) (length (changes h.entries)) a event later =
+    let lines : lines_state next ≡ lines_after h.table (map (λ (actor : Actor). actor.queue) m.actors) (length (changes h.entries)) a event later =
     (λ i. lines_in (history_is i) (memory_is i)) ∙ lines_told h m a made begin later event (Some onward) memory (effect_actors (effect_of turn.inv.cached turn.turn)) in
     subst (λ r. LineEnd a begin made r new) (ap (λ s. rest a made onward s) lines ∙ same) end
 
 -- what the steps from a world on come to
 abbrev RunEnds : {D : Type 0} → DiskFace D → Telling → Table → ℕ → ℕ → Type 0
 RunEnds {D} face tells start a n = (w new : World D) (d : Doing) → Invariant tells start w → (actor_at w.memory a).doing ≡ Some d → is_log_call d.call ≡ false → StepsToEnd face tells a n w new
-    → LineEnd a d.«from» d.call (rest a d.call d.place (lines_of w)) new
+    → LineEnd a d.«from» d.call (rest a d.call d.place (lines_state w)) new
 
 pub idle_ends : {D : Type 0} (face : DiskFace D) (tells : Telling) (a n : ℕ) (w new : World D) → (actor_at w.memory a).doing ≡ None → StepsToEnd face tells a n w new → new ≡ w
 idle_ends face tells a zero w new idle steps = steps.1
@@ -179,7 +171,7 @@ run_ends all one face tells start a (suc n) w new d inv inside group (next, step
     let turn = turn_from start w.history next.history w.memory next.memory inv_in a e step.inside s in
     let free : is_log_call e.call ≡ false = ap (λ (x : Doing). is_log_call x.call) is ∙ group in
     let facts = line_facts all one start w.history w.memory a e.call e.place e.«from» (actor_at w.memory a).queue inv_in turn.actor_is turn.low turn.right free in
-    subst (λ (x : Doing). LineEnd a x.«from» x.call (rest a x.call x.place (lines_of w)) new) is
+    subst (λ (x : Doing). LineEnd a x.«from» x.call (rest a x.call x.place (lines_state w)) new) is
     (by_next face tells start w.history w.memory a n e.call e.place e.«from» (actor_at w.memory a).queue s.later s.event s.next s.memory next new (run_ends all one face tells start a n)
     (invariant_kept all face tells start a w next inv step) free turn facts s.history_is s.memory_is steps)
 
@@ -201,7 +193,7 @@ first_rest a call.Gc s group = refl
 first_rest a (call.FlushInodes g) s group = refl
 first_rest a (call.Reclaim g) s group = refl
 
-begun_lines : {D : Type 0} (a : ℕ) (made : Call) (old new : World D) → IsBegun a made old new → lines_of new ≡ lines_of old
+begun_lines : {D : Type 0} (a : ℕ) (made : Call) (old new : World D) → IsBegun a made old new → lines_state new ≡ lines_state old
 begun_lines a made old new b =
     let x : Actor = record { doing = Some (beginning made old.history); queue = (actor_at old.memory a).queue } in
     let queue : (λ (actor : Actor). actor.queue) (actor_at old.memory a) ≡ slice_index_or (map (λ (actor : Actor). actor.queue) old.memory.actors) a [] =
@@ -213,14 +205,14 @@ begun_lines a made old new b =
 
 pub whole_call : AllLaws → OneReply → {D : Type 0} (face : DiskFace D) (tells : Telling) (start : Table) (a n : ℕ) (made : Call) (old new : World D) → Invariant tells start old → is_log_call made ≡ false
     → IsWholeCall face tells a made n old new
-    → HasEntry new.history.entries new.history.froms a (length old.history.entries) made (Some (line a made (lines_of old)).reply) × (lines_of new ≡ (line a made (lines_of old)).state)
+    → HasEntry new.history.entries new.history.froms a (length old.history.entries) made (Some (line a made (lines_state old)).reply) × (lines_state new ≡ (line a made (lines_state old)).state)
 whole_call all one face tells start a n made old new inv group whole =
     let b = whole.begins in
     let d : Doing = beginning made old.history in
     let x : Actor = record { doing = Some d; queue = (actor_at old.memory a).queue } in
     let inside : (actor_at whole.begun.memory a).doing ≡ Some d = ap (λ (k : Memory). (actor_at k a).doing) b.memory ∙ ap (λ (y : Actor). y.doing) (read_same old.memory.actors a x idle_actor b.actor) in
     let end = run_ends all one face tells start a n whole.begun new d (begin_kept all.laws tells start a made old whole.begun inv b) inside group whole.steps in
-    let same : rest a made (first_place made) (lines_of whole.begun) ≡ line a made (lines_of old) = ap (λ s. rest a made (first_place made) s) (begun_lines a made old whole.begun b) ∙ first_rest a made (lines_of old) group in (
+    let same : rest a made (first_place made) (lines_state whole.begun) ≡ line a made (lines_state old) = ap (λ s. rest a made (first_place made) s) (begun_lines a made old whole.begun b) ∙ first_rest a made (lines_state old) group in (
       subst (λ (r : LineResult). HasEntry new.history.entries new.history.froms a (length old.history.entries) made (Some r.reply)) same end.entry,
       end.state ∙ ap (λ (r : LineResult). r.state) same,
     )

@@ -5,9 +5,9 @@ use Rattle.actor_world.specs.declared.memory.Residence.TheVariants.{Dirty}
 use Rattle.actor_world.specs.declared.memory.Memory.{Memory}
 use Rattle.actor_world.specs.Caches.{cached_word, slot_at}
 
--- no in-core inode of a group is dirty
-abbrev pub IsFlushed : Memory → ℕ → Type 0
-IsFlushed m g = (number : ℕ) → number / GROUP_NUMBERS ≡ g → (slot_at m number).inode ≡ Dirty → ⊥
+-- none of a group's inodes in core is dirty
+abbrev pub HasNoDirty : Memory → ℕ → Type 0
+HasNoDirty m g = (number : ℕ) → number / GROUP_NUMBERS ≡ g → (slot_at m number).inode ≡ Dirty → ⊥
 
 -- the word of a number has a pin or the mark, or its in-core inode is dirty
 abbrev pub IsKept : Memory → ℕ → Type 0

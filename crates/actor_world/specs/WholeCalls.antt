@@ -9,8 +9,8 @@ use Rattle.actor_world.specs.Steps.{DiskFace, Step, Telling}
 use Rattle.actor_world.specs.Lines.{LinesState}
 
 -- what whole lines see of a world
-abbrev pub lines_of : {D : Type 0} → World D → LinesState
-lines_of {D} w = record {
+abbrev pub lines_state : {D : Type 0} → World D → LinesState
+lines_state {D} w = record {
   table = w.history.table;
   queues = map (λ (actor : Actor). actor.queue) w.memory.actors;
   changes = length (changes w.history.entries);

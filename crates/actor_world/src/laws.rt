@@ -32,9 +32,9 @@ ghost use Rattle.actor_world.specs.Bounds.{StepsInLock, steps_in_call, steps_in_
 ghost use Rattle.actor_world.specs.Kinds.{IsLogKind};
 ghost use Rattle.actor_world.specs.Licence.{Interval, Licensed, table_at};
 ghost use Rattle.actor_world.specs.Invariant.{Invariant, HasEntry, KeysAscend, unfinished_from};
-ghost use Rattle.actor_world.specs.Houses.{IsFlushed, IsReclaimed};
+ghost use Rattle.actor_world.specs.Houses.{HasNoDirty, IsReclaimed};
 ghost use Rattle.actor_world.specs.Lines.{line};
-ghost use Rattle.actor_world.specs.WholeCalls.{IsWholeCall, lines_of};
+ghost use Rattle.actor_world.specs.WholeCalls.{IsWholeCall, lines_state};
 ghost use Rattle.actor_world.specs.Mounted.{IsMounted};
 ghost use Rattle.actor_world.specs.Settled.{IsSettled};
 ghost use Rattle.life_table.specs.declared.types.Reply.{Reply as AnyReply};
@@ -226,8 +226,8 @@ pub fn frees_are_exact<D: Disk, T: Tells>()
 pub fn whole_calls_are_lines<D: Disk, T: Tells>()
     ensures { (face : DiskFace D) (start : Table) (a n : ℕ) (made : AnyCall) (old new : World D) → Invariant T.tells start old
         → is_log_call made ≡ false → IsWholeCall face T.tells a made n old new
-        → HasEntry new.history.entries new.history.froms a (length old.history.entries) made (Some (line a made (lines_of old)).reply)
-        × (lines_of new ≡ (line a made (lines_of old)).state) }
+        → HasEntry new.history.entries new.history.froms a (length old.history.entries) made (Some (line a made (lines_state old)).reply)
+        × (lines_state new ≡ (line a made (lines_state old)).state) }
 {
     each_call_has_one_reply();
     tables_stay_well_formed();
@@ -250,11 +250,11 @@ pub fn whole_calls_end<D: Disk, T: Tells>()
     changes_pass_over_holds();
 }
 
-/// A law: after a whole flush no in-core inode of the group is dirty; after a whole reclaim each live word of the group has
-/// a pin or the mark, or its in-core inode is dirty.
+/// A law: once a flush of a group has run whole, none of the group's inodes in core is dirty. Once a reclaim has, a live word
+/// of the group is pinned or marked, or its inode in core is dirty.
 pub fn flush_and_reclaim_clean<D: Disk, T: Tells>()
     ensures flush { (face : DiskFace D) (start : Table) (a n g : ℕ) (old new : World D) → Invariant T.tells start old
-        → IsWholeCall face T.tells a (Call.FlushInodes g) n old new → IsFlushed new.memory g }
+        → IsWholeCall face T.tells a (Call.FlushInodes g) n old new → HasNoDirty new.memory g }
     ensures reclaim { (face : DiskFace D) (start : Table) (a n g : ℕ) (old new : World D) → Invariant T.tells start old
         → IsWholeCall face T.tells a (Call.Reclaim g) n old new → IsReclaimed new.memory g }
 {
