@@ -1,0 +1,7 @@
+//! What a run of a script promises: its mounts and how they follow each other, the answer of each line, and the parts of the headline. There is no code: it is
+//! definitions (`specs/`) and laws.
+#![tactic(auto)]
+
+mod laws;
+
+pub use laws::one_answer_a_line;
