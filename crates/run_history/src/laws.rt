@@ -1,17 +1,61 @@
 // Laws of the definitions. Each is the contract of a function that does nothing but call the laws that its own rests on.
 
-ghost use Rattle.std.specs.Prelude.{◌≡◌, ◌≤◌, ℕ, List, length};
+ghost use Rattle.std.specs.Prelude.{◌≡◌, ◌≤◌, ◌+◌, ◌↔◌, [], ℕ, List, Some, length};
+ghost use Rattle.std.specs.List.{AllByRecursion};
+ghost use Rattle.life_bytes.specs.declared.sector.Sector.{Sector};
+ghost use Rattle.disk_model.specs.Disk.{Cell, IsImage, settled_as};
 ghost use Rattle.life_table.specs.declared.types.MountRecord.{MountRecord};
 ghost use Rattle.life_table.specs.declared.table.Table.{Table};
+ghost use Rattle.life_table.specs.WellFormed.{IsTable};
+ghost use Rattle.whole_image.specs.Represents.{Represents};
 ghost use Rattle.script.specs.declared.types.Line.{Line};
 ghost use Rattle.script.specs.declared.answers.Said.{Said};
 ghost use Rattle.script.specs.declared.status.Status.{Status};
 ghost use Rattle.script.specs.declared.status.Status.TheVariants as status;
-ghost use Rattle.run_history.specs.States.{RunState};
-ghost use Rattle.run_history.specs.Headline.{Replies};
+ghost use Rattle.run_history.specs.Mounts.{MountStory, acknowledged, changes_made, table_after};
+ghost use Rattle.run_history.specs.States.{PastCall, RunState};
+ghost use Rattle.run_history.specs.Linear.{AreLegalFrom};
+ghost use Rattle.run_history.specs.NextMount.{BeginsBehind, Follow};
+ghost use Rattle.run_history.specs.CrashSafe.{CrashSafe, last_mount};
+ghost use Rattle.run_history.specs.Headline.{Headline, Replies};
+
+use life_table::{changes_tell_the_table, tables_stay_well_formed};
+use whole_image::{images_represent_one_table, sound_images_represent_a_table};
 
 /// A law: each line of a run that ended well has one answer, and no run has more answers than lines.
 pub fn one_answer_a_line()
     ensures each { (first : Table) (lines : List Line) (said : List Said) (mounts : List MountRecord) (last : RunState)
         → Replies first lines status.Good said mounts last → length said ≡ length lines }
+    ensures most { (first : Table) (lines : List Line) (ended : Status) (said : List Said) (mounts : List MountRecord) (last : RunState)
+        → Replies first lines ended said mounts last → length said ≤ length lines }
 {}
+
+/// A law: a run without lines keeps the headline of an image that represents a table, and is crash safe exactly there.
+pub fn runs_without_lines_are_crash_safe()
+    ensures headline { (image : List Sector) (first : Table) (number : ℕ) → Represents image first number
+        → Headline image [] status.Good [] [] (settled_as image) }
+    ensures crash_safe { (image : List Sector) (first : Table) (number : ℕ)
+        → CrashSafe first number [] (settled_as image) ↔ Represents image first number }
+{}
+
+/// A law: runs join. An image that a crash may leave of a run represents the table from which a mount of it begins, with the number of that mount's first change: as
+/// many changes are kept as the image has, at least those that were acknowledged and at most all.
+pub fn runs_join()
+    ensures begins { (first : Table) (number : ℕ) (mounts : List MountStory) (m next : MountStory) (cells : List Cell) (image : List Sector)
+        → CrashSafe first number mounts cells → last_mount mounts ≡ Some m → IsImage cells image → Represents image next.start next.story.base
+        → next.story.base ≡ m.story.base + next.story.kept → BeginsBehind m next }
+    ensures kept { (first : Table) (number : ℕ) (mounts : List MountStory) (m : MountStory) (cells : List Cell) (image : List Sector) (t : Table) (c : ℕ)
+        → CrashSafe first number mounts cells → last_mount mounts ≡ Some m → IsImage cells image → Represents image t c
+        → (n : ℕ) × (c ≡ m.story.base + n) × (t ≡ table_after m n) × (acknowledged m ≤ n) × (n ≤ changes_made m.story) }
+{
+    images_represent_one_table();
+}
+
+/// A law: where the first image's table is well formed, each mount of a run begins from a table that is, and so is the table after any number of its changes.
+pub fn tables_of_mounts_are_well_formed()
+    ensures { (first : Table) (number : ℕ) (calls : List PastCall) (mounts : List MountStory) → IsTable first → AreLegalFrom calls 0 mounts
+        → Follow first number mounts → AllByRecursion (λ (m : MountStory). IsTable m.start × ((n : ℕ) → IsTable (table_after m n))) mounts }
+{
+    changes_tell_the_table();
+    tables_stay_well_formed();
+}

@@ -4,4 +4,7 @@
 
 mod laws;
 
-pub use laws::one_answer_a_line;
+pub use laws::{
+    one_answer_a_line, runs_join, runs_without_lines_are_crash_safe,
+    tables_of_mounts_are_well_formed,
+};
