@@ -1,2 +1,5 @@
 pub mod Joins
 pub mod WellFormedStarts
+pub mod Licences
+pub mod RightRow
+pub mod WrongRows

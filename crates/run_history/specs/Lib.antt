@@ -6,3 +6,4 @@ pub mod NextMount
 pub mod CrashSafe
 pub mod Output
 pub mod Headline
+pub mod Rows

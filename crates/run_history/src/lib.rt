@@ -3,8 +3,10 @@
 #![tactic(auto)]
 
 mod laws;
+mod rows;
 
 pub use laws::{
     one_answer_a_line, runs_join, runs_without_lines_are_crash_safe,
     tables_of_mounts_are_well_formed,
 };
+pub use rows::worked_runs_are_told_apart;
