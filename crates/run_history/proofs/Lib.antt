@@ -3,3 +3,6 @@ pub mod WellFormedStarts
 pub mod Licences
 pub mod RightRow
 pub mod WrongRows
+pub mod Members
+pub mod Between
+pub mod Walks

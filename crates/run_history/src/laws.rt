@@ -13,8 +13,8 @@ ghost use Rattle.script.specs.declared.answers.Said.{Said};
 ghost use Rattle.script.specs.declared.status.Status.{Status};
 ghost use Rattle.script.specs.declared.status.Status.TheVariants as status;
 ghost use Rattle.run_history.specs.Mounts.{MountStory, acknowledged, changes_made, table_after};
-ghost use Rattle.run_history.specs.States.{PastCall, RunState};
-ghost use Rattle.run_history.specs.Linear.{AreLegalFrom};
+ghost use Rattle.run_history.specs.States.{PastCall, RunState, calls_of};
+ghost use Rattle.run_history.specs.Linear.{AreBetween, AreLegalFrom};
 ghost use Rattle.run_history.specs.NextMount.{BeginsBehind, Follow};
 ghost use Rattle.run_history.specs.CrashSafe.{CrashSafe, last_mount};
 ghost use Rattle.run_history.specs.Headline.{Headline, Replies};
@@ -28,6 +28,13 @@ pub fn one_answer_a_line()
         → Replies first lines status.Good said mounts last → length said ≡ length lines }
     ensures most { (first : Table) (lines : List Line) (ended : Status) (said : List Said) (mounts : List MountRecord) (last : RunState)
         → Replies first lines ended said mounts last → length said ≤ length lines }
+{}
+
+/// A law: whatever lines are answered, the calls that they make have their entries in between: where one ended before another began, in the same mount, its entry
+/// stands before the other's. So what a runner owes of that is what it owes of its answers.
+pub fn answered_calls_stand_between()
+    ensures { (first : Table) (lines : List Line) (ended : Status) (said : List Said) (mounts : List MountRecord) (last : RunState)
+        → Replies first lines ended said mounts last → AreBetween (calls_of last) }
 {}
 
 /// A law: a run without lines keeps the headline of an image that represents a table, and is crash safe exactly there.
