@@ -6,3 +6,4 @@ pub mod WrongRows
 pub mod Members
 pub mod Between
 pub mod Walks
+pub mod Answered

@@ -34,11 +34,11 @@ RightState s = Right s.lines (length s.past) s.over s.up
 
 -- ---- cases
 
-by_option : {X : Type 0} (o : Option X) (A : Type 0) (B : X → Type 0) (P : Type 0) → (o ≡ None → A → P) → ((x : X) → o ≡ Some x → B x → P) → MatchOption o A B → P
+pub by_option : {X : Type 0} (o : Option X) (A : Type 0) (B : X → Type 0) (P : Type 0) → (o ≡ None → A → P) → ((x : X) → o ≡ Some x → B x → P) → MatchOption o A B → P
 by_option None A B P f g m = f refl m
 by_option (Some x) A B P f g m = g x refl m
 
-by_result : {X Y : Type 0} (r : Result X Y) (A : X → Type 0) (B : Y → Type 0) (P : Type 0) → ((x : X) → r ≡ Ok x → A x → P) → ((y : Y) → B y → P) → MatchResult r A B → P
+pub by_result : {X Y : Type 0} (r : Result X Y) (A : X → Type 0) (B : Y → Type 0) (P : Type 0) → ((x : X) → r ≡ Ok x → A x → P) → ((y : Y) → B y → P) → MatchResult r A B → P
 by_result (Ok x) A B P f g m = f x refl m
 by_result (Err y) A B P f g m = g y m
 

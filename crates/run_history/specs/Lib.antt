@@ -4,6 +4,7 @@ pub mod Answers
 pub mod Linear
 pub mod NextMount
 pub mod CrashSafe
+pub mod FirstImage
 pub mod Output
 pub mod Headline
 pub mod Rows

@@ -1,26 +1,31 @@
 // Laws of the definitions. Each is the contract of a function that does nothing but call the laws that its own rests on.
 
-ghost use Rattle.std.specs.Prelude.{◌≡◌, ◌≤◌, ◌+◌, ◌↔◌, [], ℕ, List, Some, length};
+ghost use Rattle.std.specs.Prelude.{◌≡◌, ◌≤◌, ◌+◌, ◌↔◌, [], ℕ, List, None, Some, length, slice_get};
 ghost use Rattle.std.specs.List.{AllByRecursion};
 ghost use Rattle.life_bytes.specs.declared.sector.Sector.{Sector};
 ghost use Rattle.disk_model.specs.Disk.{Cell, IsImage, settled_as};
 ghost use Rattle.life_table.specs.declared.types.MountRecord.{MountRecord};
 ghost use Rattle.life_table.specs.declared.table.Table.{Table};
 ghost use Rattle.life_table.specs.WellFormed.{IsTable};
+ghost use Rattle.whole_image.specs.Damage.{IsSound};
 ghost use Rattle.whole_image.specs.Represents.{Represents};
+ghost use Rattle.script.specs.declared.types.Command.TheVariants as Command;
+ghost use Rattle.script.specs.declared.answers.LineReply.TheVariants as LineReply;
 ghost use Rattle.script.specs.declared.types.Line.{Line};
 ghost use Rattle.script.specs.declared.answers.Said.{Said};
 ghost use Rattle.script.specs.declared.status.Status.{Status};
 ghost use Rattle.script.specs.declared.status.Status.TheVariants as status;
 ghost use Rattle.run_history.specs.Mounts.{MountStory, acknowledged, changes_made, table_after};
-ghost use Rattle.run_history.specs.States.{PastCall, RunState, calls_of};
+ghost use Rattle.run_history.specs.States.{PastCall, RunState, UpMount, calls_of, table_now};
+ghost use Rattle.run_history.specs.Answers.{AnswersLine, all_awaiting, holds_in, line_said, with_frees};
+ghost use Rattle.run_history.specs.FirstImage.{FitsFirstImage};
 ghost use Rattle.run_history.specs.Linear.{AreBetween, AreLegalFrom};
 ghost use Rattle.run_history.specs.NextMount.{BeginsBehind, Follow};
 ghost use Rattle.run_history.specs.CrashSafe.{CrashSafe, last_mount};
 ghost use Rattle.run_history.specs.Headline.{Headline, Replies};
 
 use life_table::{changes_tell_the_table, tables_stay_well_formed};
-use whole_image::{images_represent_one_table, sound_images_represent_a_table};
+use whole_image::{images_represent_one_table, one_first_damage};
 
 /// A law: each line of a run that ended well has one answer, and no run has more answers than lines.
 pub fn one_answer_a_line()
@@ -36,6 +41,27 @@ pub fn answered_calls_stand_between()
     ensures { (first : Table) (lines : List Line) (ended : Status) (said : List Said) (mounts : List MountRecord) (last : RunState)
         → Replies first lines ended said mounts last → AreBetween (calls_of last) }
 {}
+
+/// A law: what a line's answer says of the run. After a stop no mount is up. An unmount is answered ok only where nobody held an inode, and then no mount is up. A
+/// mount that is answered ok was not up, and is up then: it keeps and has freed what it says, and has recorded each free.
+pub fn answers_tell_of_the_mount()
+    ensures stop { (first : Table) (s : RunState) (said : Said) (next : RunState) → AnswersLine first s Command.Stop said next
+        → (said ≡ line_said LineReply.Stopped) × (next.up ≡ None) }
+    ensures unmounted { (first : Table) (s next : RunState) → AnswersLine first s Command.Unmount (line_said LineReply.Unmounted) next
+        → (up : UpMount) × (s.up ≡ Some up) × (holds_in (table_now (with_frees (all_awaiting (table_now up)) up)) ≡ 0) × (next.up ≡ None) }
+    ensures mounted { (first : Table) (s next : RunState) (kept freed : ℕ) → AnswersLine first s Command.Mount (line_said (LineReply.Mounted kept freed)) next
+        → (s.up ≡ None) × ((up : UpMount) × (next.up ≡ Some up) × (up.story.kept ≡ kept) × (up.story.freed ≡ freed) × (length up.story.entries ≡ freed)) }
+{}
+
+/// A law: no mount line calls a sound image damaged, and of an image that is not sound no mount is begun.
+pub fn damage_is_told_exactly()
+    ensures never { (before : List Sector) (lines : List Line) (said : List Said) (mounts : List MountRecord) (cells : List Cell) (i rule sector : ℕ)
+        → FitsFirstImage before lines said mounts cells → IsSound before → ¬ (slice_get said i ≡ Some (line_said (LineReply.Damaged rule sector))) }
+    ensures none { (before : List Sector) (lines : List Line) (said : List Said) (mounts : List MountRecord) (cells : List Cell)
+        → FitsFirstImage before lines said mounts cells → ¬ IsSound before → mounts ≡ [] }
+{
+    one_first_damage();
+}
 
 /// A law: a run without lines keeps the headline of an image that represents a table, and is crash safe exactly there.
 pub fn runs_without_lines_are_crash_safe()
