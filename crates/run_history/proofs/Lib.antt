@@ -7,3 +7,6 @@ pub mod Members
 pub mod Between
 pub mod Walks
 pub mod Answered
+pub mod Progressing
+pub mod Intervals
+pub mod KeptWalks

@@ -72,7 +72,7 @@ fails_down ending up s none right =
 
 -- ---- mounts
 
-failing : (first : Table) (s next : RunState) → RightState s → Right s.lines (length s.past) s.over None → FailsToMount first s next → RightState next
+pub failing : (first : Table) (s next : RunState) → RightState s → Right s.lines (length s.past) s.over None → FailsToMount first s next → RightState next
 unfolding RightState
 failing first s next whole right (inl e) = subst RightState (sym e) (stays s.lines (length s.past) s.over s.up whole)
 failing first s next whole right (inr (story, fresh, e)) = subst RightState (sym e) (fails_down never_up (record { start = start_behind first s.past story.kept; story = story; going = [] }) s refl right)
@@ -101,7 +101,7 @@ ending_right s up (Line None line.PositionEnd) next right a = subst RightState (
 ending_right s up (Line None line.Stopped) next right a = subst RightState (sym a.2) (goes_down left up (disarmed s) right.calls right.now)
 ending_right s up said next right a = absurd a
 
-freed_right : (s : RunState) (up : UpMount) (keys : List Key) → Right s.lines (length s.past) s.over (Some up) → Right (s.lines + 1) (length s.past) s.over (Some (with_frees keys up))
+pub freed_right : (s : RunState) (up : UpMount) (keys : List Key) → Right s.lines (length s.past) s.over (Some up) → Right (s.lines + 1) (length s.past) s.over (Some (with_frees keys up))
 freed_right s up keys right = grows s.lines (length s.past) s.over up (with_frees keys up) (longer up.story.entries (frees_of MAX_ACTORS keys)) refl right
 
 unmounting : (s : RunState) (up : UpMount) (said : Said) (next : RunState) → RightState s → Right s.lines (length s.past) s.over (Some up) → AnswersUnmount s up said next → RightState next
@@ -111,7 +111,7 @@ unmounting s up said next whole right a = by_option (least_actor up.going) _ _ (
 
 -- ---- what a call's steps add
 
-record Adds (place more : ℕ) (made after : LineCall) : Type 0 where
+pub record Adds (place more : ℕ) (made after : LineCall) : Type 0 where
   first : after.first ≡ made.first
   begin : after.begin ≡ made.begin
   entry : (e : ℕ) → after.entry ≡ Some e → (made.entry ≡ Some e) ⊎ ((place ≤ e) × (e < more))
@@ -131,7 +131,7 @@ adds_by made next place (Called called answer) a = record {
   entry = λ n s. let e = same_number place n (sym (ap (λ (c : LineCall). c.entry) a.2) ∙ s) in inr (omega (arith, e), omega (arith, e));
 }
 
-adds : (made : LineCall) (place : ℕ) (entries : List Entry) (after : LineCall) → AddsEntries made place entries after → Adds place (place + length entries) made after
+pub adds : (made : LineCall) (place : ℕ) (entries : List Entry) (after : LineCall) → AddsEntries made place entries after → Adds place (place + length entries) made after
 adds made place [] after e = record {
   first = ap (λ (c : LineCall). c.first) e;
   begin = ap (λ (c : LineCall). c.begin) e;
@@ -149,7 +149,7 @@ adds made place (entry ∷ entries) after (actor, (next, event, rest)) =
       ];
     }
 
-worked : (up : UpMount) (made : LineCall) (added : List Entry) (after : LineCall) → Works up made added after
+pub worked : (up : UpMount) (made : LineCall) (added : List Entry) (after : LineCall) → Works up made added after
     → Worked (length up.story.entries) (length (up.story.entries ++ added)) made after
 worked up made added after w =
     let a = adds made (length up.story.entries) added after w in
@@ -163,7 +163,7 @@ worked up made added after w =
 
 -- ---- lines that work on a call
 
-abbrev AtWork : RunState → UpMount → LineCall → Type 0
+abbrev pub AtWork : RunState → UpMount → LineCall → Type 0
 AtWork s up made = IsAtWork s.lines (length s.past) s.over (length up.story.entries) made
 
 calls_on : (lines p : ℕ) (over : List PastCall) (up : Option UpMount) → Right lines p over up → RightOver (lines + 1) p over
@@ -213,12 +213,12 @@ steps_right s up made said next whole right at a = absurd a
 
 -- ---- which call
 
-record IsNew (s : RunState) (up : UpMount) (g : LineCall) : Type 0 where
+pub record IsNew (s : RunState) (up : UpMount) (g : LineCall) : Type 0 where
   first : g.first ≡ s.lines
   begin : g.begin ≡ length up.story.entries
   entry : g.entry ≡ None
 
-err-ok : {X Y : Type 0} (x : X) (y : Y) → Err y ≡ Ok x → ⊥
+pub err-ok : {X Y : Type 0} (x : X) (y : Y) → Err y ≡ Ok x → ⊥
 err-ok x y e = cc
 
 new_by : (b : Bool) (s : RunState) (up : UpMount) (actor : ℕ) (words : Spoken) (made : Call) (g : LineCall)
@@ -239,16 +239,16 @@ new_in_group : (b : Bool) (r : Result LineCall LineReply) (s : RunState) (up : U
 new_in_group true r s up g held e = absurd (err-ok g line.NoGroup e)
 new_in_group false r s up g held e = held e
 
-is_new : (s : RunState) (up : UpMount) (actor : ℕ) (words : Spoken) (o : Option LineCall) (g : LineCall) → begun s up actor words o ≡ Ok g → IsNew s up g
+pub is_new : (s : RunState) (up : UpMount) (actor : ℕ) (words : Spoken) (o : Option LineCall) (g : LineCall) → begun s up actor words o ≡ Ok g → IsNew s up g
 is_new s up actor words (Some going) g e = absurd (err-ok g (line.Mid actor) e)
 is_new s up actor words None g e = new_in_group (lacks_group up.start words) _ s up g (new_if_held s up actor words _ g) e
 
-begins_at_work : (s : RunState) (up : UpMount) (g : LineCall) → Right s.lines (length s.past) s.over (Some up) → IsNew s up g → AtWork s up g
+pub begins_at_work : (s : RunState) (up : UpMount) (g : LineCall) → Right s.lines (length s.past) s.over (Some up) → IsNew s up g → AtWork s up g
 begins_at_work s up g right new = begins s.lines (length s.past) s.over (length up.story.entries) up.going g right.now new.first new.begin new.entry
 
 -- ---- lines
 
-right_with : (s : RunState) (o : Option UpMount) → RightState s → s.up ≡ o → Right s.lines (length s.past) s.over o
+pub right_with : (s : RunState) (o : Option UpMount) → RightState s → s.up ≡ o → Right s.lines (length s.past) s.over o
 unfolding RightState
 right_with s o right e = subst (Right s.lines (length s.past) s.over) e right
 
@@ -273,7 +273,7 @@ with_going_right s actor said next answers right go a = with_mount s said next _
     (λ none d. only_says line.Idle s said next right d)
     (λ made is d. go up made now (at_work s.lines (length s.past) s.over (length up.story.entries) up.going made now.now (mem-going actor made up.going is)) d) b) a
 
-stopping : (o : Option UpMount) (s : RunState) → RightState s → s.up ≡ o → RightState (stopped_now o s)
+pub stopping : (o : Option UpMount) (s : RunState) → RightState s → s.up ≡ o → RightState (stopped_now o s)
 unfolding RightState
 stopping None s right e = stays s.lines (length s.past) s.over s.up right
 stopping (Some up) s right e =
@@ -321,14 +321,14 @@ breaks_right first s (Some up) (command.Whole actor words) last right e a =
     (λ made is b. stops_right s up made last now (begins_at_work s up made now (is_new s up actor words (going_of actor up.going) made is)) b) (λ refusal b. absurd b) a
 breaks_right first s o asked last right e a = absurd a
 
-ends_run : (first : Table) (lines : List ScriptLine) (said : List Said) (s : RunState) (ended : Status) (last : RunState) → RightState s → EndsRun first lines said s ended last → RightState last
+pub ends_run : (first : Table) (lines : List ScriptLine) (said : List Said) (s : RunState) (ended : Status) (last : RunState) → RightState s → EndsRun first lines said s ended last → RightState last
 unfolding RightState
 ends_run first lines said s status.Good last right a = subst RightState (sym a.1) right
 ends_run first lines said s status.NoMemory last right (few, inl same) = subst RightState (sym same) right
 ends_run first lines said s status.NoMemory last right (few, inr (asked, is, off)) = breaks_right first s s.up asked.command last right refl off
 ends_run first lines said s ended last right a = absurd a
 
-begins_right : RightState run_begins
+pub begins_right : RightState run_begins
 unfolding RightState
 begins_right = record {
   calls = record { each = λ x m. absurd (no_member x m); pairs = λ x y m k. absurd (no_member x m) };

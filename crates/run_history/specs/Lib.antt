@@ -1,6 +1,7 @@
 pub mod Mounts
 pub mod States
 pub mod Answers
+pub mod Progress
 pub mod Linear
 pub mod NextMount
 pub mod CrashSafe

@@ -1,12 +1,13 @@
 // Laws of the definitions. Each is the contract of a function that does nothing but call the laws that its own rests on.
 
-ghost use Rattle.std.specs.Prelude.{◌≡◌, ◌≤◌, ◌+◌, ◌↔◌, [], ℕ, List, None, Some, length, slice_get};
+ghost use Rattle.std.specs.Prelude.{Contains, ◌≡◌, ◌≤◌, ◌+◌, ◌↔◌, ◌∷◌, ◌++◌, [], ℕ, map, List, None, Some, length, slice_get};
 ghost use Rattle.std.specs.List.{AllByRecursion};
 ghost use Rattle.life_bytes.specs.declared.sector.Sector.{Sector};
 ghost use Rattle.disk_model.specs.Disk.{Cell, IsImage, settled_as};
 ghost use Rattle.life_table.specs.declared.types.MountRecord.{MountRecord};
 ghost use Rattle.life_table.specs.declared.table.Table.{Table};
 ghost use Rattle.life_table.specs.WellFormed.{IsTable};
+ghost use Rattle.actor_world.specs.Licence.{Interval};
 ghost use Rattle.whole_image.specs.Damage.{IsSound};
 ghost use Rattle.whole_image.specs.Represents.{Represents};
 ghost use Rattle.script.specs.declared.types.Command.TheVariants as Command;
@@ -16,8 +17,9 @@ ghost use Rattle.script.specs.declared.answers.Said.{Said};
 ghost use Rattle.script.specs.declared.status.Status.{Status};
 ghost use Rattle.script.specs.declared.status.Status.TheVariants as status;
 ghost use Rattle.run_history.specs.Mounts.{MountStory, acknowledged, changes_made, table_after};
-ghost use Rattle.run_history.specs.States.{PastCall, RunState, UpMount, calls_of, table_now};
+ghost use Rattle.run_history.specs.States.{PastCall, RunState, UpMount, calls_of, mounts_of, run_begins, table_now};
 ghost use Rattle.run_history.specs.Answers.{AnswersLine, all_awaiting, holds_in, line_said, with_frees};
+ghost use Rattle.run_history.specs.Progress.{HasCome};
 ghost use Rattle.run_history.specs.FirstImage.{FitsFirstImage};
 ghost use Rattle.run_history.specs.Linear.{AreBetween, AreLegalFrom};
 ghost use Rattle.run_history.specs.NextMount.{BeginsBehind, Follow};
@@ -35,11 +37,23 @@ pub fn one_answer_a_line()
         → Replies first lines ended said mounts last → length said ≤ length lines }
 {}
 
+/// A law: a run goes on by one line, and has its replies once the last line is answered. So a loop over the lines keeps that the run has come so far, and each turn
+/// owes the answer of its line.
+pub fn runs_go_on()
+    ensures begins { (first : Table) (lines : List Line) → HasCome first lines [] run_begins }
+    ensures goes_on { (first : Table) (lines : List Line) (said : List Said) (s : RunState) (asked : Line) (one : Said) (next : RunState) → HasCome first lines said s
+        → slice_get lines (length said) ≡ Some asked → AnswersLine first s asked.command one next → HasCome first lines (said ++ one ∷ []) next }
+    ensures ends { (first : Table) (lines : List Line) (said : List Said) (s : RunState) → HasCome first lines said s → length said ≡ length lines
+        → Replies first lines status.Good said (map (λ (m : MountStory). m.story) (mounts_of s)) s }
+{}
+
 /// A law: whatever lines are answered, the calls that they make have their entries in between: where one ended before another began, in the same mount, its entry
-/// stands before the other's. So what a runner owes of that is what it owes of its answers.
+/// stands before the other's; and no entry stands before its call's begin. So what a runner owes of both is what it owes of its answers.
 pub fn answered_calls_stand_between()
-    ensures { (first : Table) (lines : List Line) (ended : Status) (said : List Said) (mounts : List MountRecord) (last : RunState)
+    ensures between { (first : Table) (lines : List Line) (ended : Status) (said : List Said) (mounts : List MountRecord) (last : RunState)
         → Replies first lines ended said mounts last → AreBetween (calls_of last) }
+    ensures intervals { (first : Table) (lines : List Line) (ended : Status) (said : List Said) (mounts : List MountRecord) (last : RunState) (m : MountStory)
+        → Replies first lines ended said mounts last → Contains (mounts_of last) m → Interval m.story.entries m.story.froms }
 {}
 
 /// A law: what a line's answer says of the run. After a stop no mount is up. An unmount is answered ok only where nobody held an inode, and then no mount is up. A

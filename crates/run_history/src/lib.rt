@@ -7,7 +7,7 @@ mod rows;
 
 pub use laws::{
     answered_calls_stand_between, answers_tell_of_the_mount, damage_is_told_exactly,
-    one_answer_a_line, runs_join, runs_without_lines_are_crash_safe,
+    one_answer_a_line, runs_go_on, runs_join, runs_without_lines_are_crash_safe,
     tables_of_mounts_are_well_formed,
 };
 pub use rows::worked_runs_are_told_apart;
