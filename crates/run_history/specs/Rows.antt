@@ -1,5 +1,5 @@
 -- A run that is worked out, and the same with wrong answers.
-use Rattle.std.specs.Prelude.{ℕ, List, [], ◌∷◌, ◌++◌, codes, flat_map}
+use Rattle.std.specs.Prelude.{ℕ, List, [], ◌∷◌, ◌++◌, codes, flat_map, take}
 use Rattle.life_limits.specs.declared.TheConstants.{MIN_BLOCKS, VERSION}
 use Rattle.life_table.specs.declared.key.Key.{Key}
 use Rattle.life_table.specs.declared.types.Call.TheVariants as call
@@ -77,14 +77,18 @@ row_records key kept = row_first key ∷ row_second kept ∷ []
 abbrev pub line_end : List ℕ → List ℕ
 line_end text = text ++ 10 ∷ []
 
--- what is written of the right answers
-abbrev pub row_output : List ℕ
-row_output = flat_map line_end
-    (codes "ok kept 0 freed 0"
+-- the texts of the right answers
+abbrev pub row_texts : List (List ℕ)
+row_texts =
+    codes "ok kept 0 freed 0"
     ∷ codes "ok 192.1"
     ∷ codes "ok 1"
     ∷ codes "ok 193.1"
     ∷ codes "stopped"
     ∷ codes "ok kept 1 freed 0"
     ∷ codes "ok"
-    ∷ [])
+    ∷ []
+
+-- what is written of so many of them
+abbrev pub row_output : ℕ → List ℕ
+row_output count = flat_map line_end (take count row_texts)

@@ -1,5 +1,6 @@
-use Rattle.std.proofs.Common.{◌≡◌, ◌≤◌, ℕ, refl, arith}
+use Rattle.std.proofs.Common.{◌≡◌, ◌≤◌, ℕ, length, refl, ap, arith}
 use Rattle.std.specs.Fmt.{digits}
+use Rattle.run_history.specs.Rows.{row_output}
 use Rattle.run_history.proofs.RightRow.{right_history}
 use Rattle.run_history.proofs.WrongRows.{lost, other_key}
 use Rattle.run_history.proofs.rows.worked_runs_are_told_apart.Goals as goal
@@ -10,6 +11,10 @@ returns-clause-right c = right_history
 pub returns-clause-written : goal.returns-clause-written
 unfolding digits
 returns-clause-written c = refl
+
+pub returns-clause-cut_short : goal.returns-clause-cut_short
+unfolding digits
+returns-clause-cut_short c = λ written. let e : length (row_output 6) ≡ length (row_output 7) = ap length written in absurd (omega (arith, e))
 
 pub returns-clause-lost : goal.returns-clause-lost
 returns-clause-lost c = lost
