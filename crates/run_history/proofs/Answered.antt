@@ -1,22 +1,18 @@
 -- What a line's answer says of the run.
-use Rattle.std.proofs.Common.{◌≡◌, ◌≤◌, ◌<◌, ◌+◌, ◌⊎◌, inl, inr, ℕ, Bool, true, false, List, [], ◌∷◌, ◌++◌, Option, None, Some, length, refl, ap, sym, subst, ◌∙◌, arith}
+use Rattle.std.proofs.Common.{◌≡◌, ℕ, List, Option, None, Some, length, refl, ap, sym, ◌∙◌}
 use Rattle.std.proofs.lemmas.List.{length-map}
-use Rattle.std.specs.Prelude.{MatchOption, MatchResult, Result, slice_get}
 use Rattle.life_limits.specs.declared.TheConstants.{MAX_ACTORS}
-use Rattle.life_table.specs.declared.types.Entry.{Entry}
 use Rattle.life_table.specs.declared.types.Event.TheVariants.{Freed}
 use Rattle.life_table.specs.declared.key.Key.{Key}
 use Rattle.life_table.specs.declared.table.Table.{Table}
 use Rattle.life_table.specs.History.{frees_of}
-use Rattle.script.specs.declared.types.Command.{Command}
 use Rattle.script.specs.declared.types.Command.TheVariants as command
 use Rattle.script.specs.declared.answers.LineReply.{LineReply}
 use Rattle.script.specs.declared.answers.LineReply.TheVariants as line
 use Rattle.script.specs.declared.answers.Said.{Said}
-use Rattle.script.specs.declared.answers.Said.TheVariants.{Line}
-use Rattle.run_history.specs.States.{LineCall, RunState, UpMount, begun, disarmed, going_of, least_actor, table_now}
-use Rattle.run_history.specs.Answers.{AnswersEnd, AnswersLine, AnswersMount, AnswersUnmount, FailsToMount, IsFresh, OnlySays, RunsCall, StepsCall, all_awaiting, holds_in, line_said, stopped_now, with_frees}
-use Rattle.run_history.proofs.Walks.{by_option, by_result}
+use Rattle.run_history.specs.States.{RunState, UpMount, disarmed, least_actor, table_now}
+use Rattle.run_history.specs.Answers.{AnswersLine, AnswersUnmount, all_awaiting, holds_in, line_said, stopped_now, with_frees}
+use Rattle.run_history.proofs.Walks.{by_option}
 
 says_other : (a b : LineReply) → (line_said a ≡ line_said b) → a ≡ b
 says_other a b e = cc

@@ -1,11 +1,9 @@
 -- Each entry of a run's mounts stands at or behind the begin of its call.
-use Rattle.std.proofs.Common.{◌≡◌, ◌≤◌, ◌<◌, ◌+◌, ◌⊎◌, inl, inr, ℕ, zero, suc, List, [], ◌∷◌, ◌++◌, Option, None, Some, length, refl, ap, sym, subst, ◌∙◌, arith, length-append}
-use Rattle.std.specs.Prelude.{map, replicate, slice_get}
-use Rattle.std.proofs.lemmas.List.{length-map, length-replicate}
-use Rattle.life_limits.specs.declared.TheConstants.{MAX_ACTORS}
+use Rattle.std.proofs.Common.{◌≡◌, ◌≤◌, ◌+◌, ℕ, zero, suc, List, [], ◌∷◌, ◌++◌, Some, length, refl, ap, sym, subst, ◌∙◌, arith, length-append}
+use Rattle.std.specs.Prelude.{replicate, slice_get}
+use Rattle.std.proofs.lemmas.List.{length-replicate}
 use Rattle.life_table.specs.declared.key.Key.{Key}
 use Rattle.life_table.specs.declared.types.Entry.{Entry}
-use Rattle.life_table.specs.declared.types.MountRecord.{MountRecord}
 use Rattle.actor_world.specs.Licence.{Interval}
 use Rattle.actor_world.specs.Mounted.{own_places}
 

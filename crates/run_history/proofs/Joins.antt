@@ -1,15 +1,13 @@
 -- How runs join, and runs without lines.
-use Rattle.std.proofs.Common.{◌≡◌, ◌≤◌, ◌+◌, ◌⊎◌, inl, inr, ℕ, List, [], ◌∷◌, Option, None, Some, length, refl, ap, sym, subst, ◌∙◌, arith}
-use Rattle.std.specs.Prelude.{◌↔◌, ⊤}
+use Rattle.std.proofs.Common.{◌≡◌, ℕ, List, [], Option, Some, refl, sym, subst, arith}
 use Rattle.life_bytes.specs.declared.sector.Sector.{Sector}
 use Rattle.disk_model.specs.Disk.{Cell, IsImage, settled_as}
-use Rattle.disk_model.specs.DiskLaws.{IsImage-settled_as, IsImage-settled_as_itself}
+use Rattle.disk_model.specs.DiskLaws.{IsImage-settled_as}
 use Rattle.life_table.specs.declared.table.Table.{Table}
 use Rattle.whole_image.specs.Represents.{Represents}
 use Rattle.script.specs.declared.status.Status.TheVariants as status
-use Rattle.run_history.specs.Mounts.{MountStory, acknowledged, changes_made, table_after}
+use Rattle.run_history.specs.Mounts.{MountStory}
 use Rattle.run_history.specs.States.{run_begins}
-use Rattle.run_history.specs.NextMount.{BeginsBehind}
 use Rattle.run_history.specs.CrashSafe.{CrashSafe, IsLeftSafe, IsPrefixLeft, last_mount}
 use Rattle.run_history.specs.Headline.{Headline}
 

@@ -1,6 +1,6 @@
 -- Each entry of a run's mounts stands at or behind the begin of its call, line by line.
-use Rattle.std.proofs.Common.{◌≡◌, ◌≤◌, ◌<◌, ◌+◌, ◌⊎◌, inl, inr, ℕ, Bool, true, false, List, [], ◌∷◌, ◌++◌, Option, None, Some, length, refl, ap, sym, subst, ◌∙◌, arith}
-use Rattle.std.specs.Prelude.{IsSome, MatchOption, MatchResult, replicate, take}
+use Rattle.std.proofs.Common.{◌≡◌, ◌≤◌, inl, inr, ℕ, List, [], ◌∷◌, ◌++◌, Option, None, Some, length, refl, ap, sym, subst, ◌∙◌}
+use Rattle.std.specs.Prelude.{replicate, take}
 use Rattle.std.proofs.lemmas.List.{length-map}
 use Rattle.life_limits.specs.declared.TheConstants.{MAX_ACTORS}
 use Rattle.life_table.specs.declared.key.Key.{Key}
@@ -21,11 +21,11 @@ use Rattle.script.specs.declared.answers.Said.TheVariants.{Of, Line}
 use Rattle.script.specs.declared.status.Status.{Status}
 use Rattle.script.specs.declared.status.Status.TheVariants as status
 use Rattle.run_history.specs.Mounts.{Ending, MountStory, left, never_up, start_behind, unmounted}
-use Rattle.run_history.specs.States.{LineCall, RunState, UpMount, begun, disarmed, down_now, ends_as, going_of, least_actor, mounts_of, run_begins, table_now, went_on, went_to_end, with_up}
+use Rattle.run_history.specs.States.{LineCall, RunState, UpMount, begun, disarmed, down_now, ends_as, going_of, least_actor, mounts_of, run_begins, table_now, went_on, with_up}
 use Rattle.run_history.specs.Answers.{Answers, AnswersEnd, AnswersLine, AnswersMount, AnswersUnmount, BreaksOff, EndsCall, FailsToMount, IsFresh, OnlySays, RunsCall, StepsCall, StopsIn, WithCall, WithGoing, WithMount, Works, all_awaiting, stopped_now, with_frees}
 use Rattle.run_history.specs.Headline.{EndsRun, Replies}
 use Rattle.run_history.proofs.Members.{Mem, mem-append, mem-going, mem-one, no_member}
-use Rattle.run_history.proofs.Between.{IsAtWork, Right, Worked, at_work}
+use Rattle.run_history.proofs.Between.{Right, at_work}
 use Rattle.run_history.proofs.Walks.{AtWork, RightState, begins_at_work, begins_right, by_option, by_result, is_new, line_right, right_with, worked}
 use Rattle.run_history.proofs.Intervals.{Kept, kept_fresh, kept_frees, kept_interval, kept_more}
 

@@ -1,11 +1,11 @@
 -- Entries that need no licence: creates that made something, and syncs.
-use Rattle.std.proofs.Common.{◌≡◌, ◌≤◌, ◌<◌, ℕ, zero, suc, List, [], ◌∷◌, Option, None, Some, refl, sym, subst}
+use Rattle.std.proofs.Common.{◌≡◌, ℕ, zero, suc, List, [], ◌∷◌, Some, subst}
 use Rattle.std.specs.Prelude.{⊤, slice_get}
 use Rattle.std.specs.List.{AllByRecursion}
 use Rattle.life_table.specs.declared.types.Call.TheVariants as call
 use Rattle.life_table.specs.declared.types.Reply.TheVariants as reply
 use Rattle.life_table.specs.declared.types.Event.{Event}
-use Rattle.life_table.specs.declared.types.Event.TheVariants.{Called, Freed}
+use Rattle.life_table.specs.declared.types.Event.TheVariants.{Called}
 use Rattle.life_table.specs.declared.types.Entry.{Entry}
 use Rattle.life_table.specs.declared.table.Table.{Table}
 use Rattle.actor_world.specs.Licence.{Licensed, Unfinished, refused_group}

@@ -1,6 +1,6 @@
 -- Members of lists of calls.
-use Rattle.std.proofs.Common.{◌≡◌, ◌≤◌, ◌<◌, ◌+◌, ◌⊎◌, inl, inr, ℕ, zero, suc, Bool, true, false, List, [], ◌∷◌, ◌++◌, Option, None, Some, length, refl, ap, sym, subst, ◌∙◌, arith}
-use Rattle.std.specs.Prelude.{Contains, filter, map, slice_index_or, ◌==◌, if◌then◌else◌}
+use Rattle.std.proofs.Common.{◌≡◌, ◌⊎◌, inl, inr, ℕ, zero, suc, Bool, true, false, List, [], ◌∷◌, ◌++◌, Option, Some, refl, sym, arith}
+use Rattle.std.specs.Prelude.{Contains, map, ◌==◌, if◌then◌else◌}
 use Rattle.run_history.specs.States.{LineCall, going_of, of_others}
 
 pub Mem : {X : Type 0} → X → List X → Type 0

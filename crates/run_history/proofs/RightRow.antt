@@ -1,6 +1,6 @@
 -- The worked run, line by line.
-use Rattle.std.proofs.Common.{◌≡◌, ◌≤◌, ◌<◌, ◌+◌, ℕ, zero, suc, List, [], ◌∷◌, ◌++◌, Option, None, Some, length, refl, ap, sym, subst, ◌∙◌, arith}
-use Rattle.std.specs.Prelude.{slice_get, codes, map, take}
+use Rattle.std.proofs.Common.{◌≡◌, ◌≤◌, ◌+◌, ℕ, zero, suc, [], ◌∷◌, ◌++◌, Option, None, Some, length, refl, ap, subst, arith}
+use Rattle.std.specs.Prelude.{slice_get, codes, take}
 use Rattle.std.specs.List.{AllByRecursion}
 use Rattle.std.proofs.lemmas.List.Elements.{All-contains, All-from_recursion}
 use Rattle.life_table.specs.declared.types.Call.{Call}
@@ -23,7 +23,7 @@ use Rattle.run_history.specs.Mounts.{MountStory, left, unmounted, table_after}
 use Rattle.run_history.specs.States.{LineCall, PastCall, RunState, UpMount, beginning, calls_of, down_now, disarmed, mounts_of, run_begins, up_now, went_to_end}
 use Rattle.run_history.specs.Answers.{Answers, with_frees}
 use Rattle.run_history.specs.Linear.{AreBetween, IsLegalMount}
-use Rattle.run_history.specs.Headline.{IsOneHistory, Replies}
+use Rattle.run_history.specs.Headline.{IsOneHistory}
 use Rattle.run_history.specs.NextMount.{NextMount}
 use Rattle.run_history.specs.Rows.{by_first_actor, key_a, key_b, row_first, row_lines, row_records, row_said, row_second, row_table}
 use Rattle.run_history.proofs.Licences.{plain_licensed}

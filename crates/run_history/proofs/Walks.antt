@@ -1,7 +1,6 @@
 -- The calls of a run have their entries in between, line by line.
-use Rattle.std.proofs.Common.{◌≡◌, ◌≤◌, ◌<◌, ◌+◌, ◌⊎◌, inl, inr, ℕ, zero, suc, Bool, true, false, List, [], ◌∷◌, ◌++◌, Option, None, Some, length, refl, ap, sym, subst, ◌∙◌, arith, length-append}
-use Rattle.std.specs.Prelude.{Contains, IsSome, MatchOption, MatchResult, Ok, Err, Result, if◌then◌else◌, replicate, take}
-use Rattle.std.proofs.lemmas.Option.{none-some}
+use Rattle.std.proofs.Common.{◌≡◌, ◌≤◌, ◌<◌, ◌+◌, ◌⊎◌, inl, inr, ℕ, Bool, true, false, List, [], ◌∷◌, ◌++◌, Option, None, Some, length, refl, ap, sym, subst, ◌∙◌, arith, length-append}
+use Rattle.std.specs.Prelude.{MatchOption, MatchResult, Ok, Err, Result, if◌then◌else◌, take}
 use Rattle.life_limits.specs.declared.TheConstants.{MAX_ACTORS}
 use Rattle.life_table.specs.declared.key.Key.{Key}
 use Rattle.life_table.specs.declared.types.Call.{Call}
@@ -21,13 +20,13 @@ use Rattle.script.specs.declared.answers.Said.{Said}
 use Rattle.script.specs.declared.answers.Said.TheVariants.{Of, Line}
 use Rattle.script.specs.declared.status.Status.{Status}
 use Rattle.script.specs.declared.status.Status.TheVariants as status
-use Rattle.run_history.specs.Mounts.{Ending, MountStory, left, never_up, start_behind, unmounted}
-use Rattle.run_history.specs.States.{LineCall, PastCall, RunState, UpMount, beginning, begun, begun_if_held, calls_of, calls_with_up, disarmed, down_now, dropped, ends_as, going_of, holds_key, lacks_group, least_actor, next_line, of_others, run_begins, table_now, up_now, went_on, went_to_end}
-use Rattle.run_history.specs.Answers.{AddsEntries, AddsEvent, Answers, AnswersEnd, AnswersLine, AnswersMount, AnswersUnmount, BreaksOff, EndsCall, FailsToMount, OnlySays, RunsCall, StepsCall, StopsIn, WaitsFor, WithCall, WithGoing, WithMount, Works, all_awaiting, stopped_now, with_call, with_frees}
+use Rattle.run_history.specs.Mounts.{Ending, left, never_up, start_behind, unmounted}
+use Rattle.run_history.specs.States.{LineCall, PastCall, RunState, UpMount, beginning, begun, begun_if_held, calls_of, calls_with_up, disarmed, down_now, dropped, ends_as, going_of, holds_key, lacks_group, least_actor, run_begins, table_now, went_on, went_to_end}
+use Rattle.run_history.specs.Answers.{AddsEntries, AddsEvent, Answers, AnswersEnd, AnswersLine, AnswersMount, AnswersUnmount, BreaksOff, EndsCall, FailsToMount, OnlySays, RunsCall, StepsCall, StopsIn, WithCall, WithGoing, WithMount, Works, all_awaiting, stopped_now, with_frees}
 use Rattle.run_history.specs.Linear.{AreBetween}
 use Rattle.run_history.specs.Headline.{EndsRun, Replies}
 use Rattle.run_history.proofs.Members.{Mem, mem-contains, mem-going, no_member}
-use Rattle.run_history.proofs.Between.{Before, IsAtWork, IsOver, IsRightUp, Right, RightOver, RightUp, Worked, at_work, begins, comes_up, ends, fails, goes, grows, stays, works}
+use Rattle.run_history.proofs.Between.{Before, IsAtWork, Right, RightOver, RightUp, Worked, at_work, begins, comes_up, ends, fails, goes, grows, stays, works}
 
 pub RightState : RunState → Type 0
 RightState s = Right s.lines (length s.past) s.over s.up

@@ -1,15 +1,15 @@
 -- The tables of the mounts of a run are well formed.
-use Rattle.std.proofs.Common.{◌≡◌, ◌≤◌, ◌+◌, ℕ, List, [], ◌∷◌, refl, sym, subst}
+use Rattle.std.proofs.Common.{◌≡◌, ◌+◌, ℕ, List, [], ◌∷◌, sym, subst}
 use Rattle.std.specs.List.{AllByRecursion}
 use Rattle.life_table.specs.declared.types.Entry.{Entry}
 use Rattle.life_table.specs.declared.table.Table.{Table}
-use Rattle.life_table.specs.History.{After, Leads, changes, closed}
+use Rattle.life_table.specs.History.{After, Leads, closed}
 use Rattle.life_table.specs.WellFormed.{IsTable}
 use Rattle.std.specs.Prelude.{take}
 use Rattle.run_history.specs.Mounts.{MountStory, table_after}
 use Rattle.run_history.specs.States.{PastCall}
 use Rattle.run_history.specs.Linear.{AreLegalFrom, IsLegalMount}
-use Rattle.run_history.specs.NextMount.{BeginsBehind, Follow, FollowOn}
+use Rattle.run_history.specs.NextMount.{Follow, FollowOn}
 
 -- what the laws of tables say
 pub record TableLaws : Type 0 where

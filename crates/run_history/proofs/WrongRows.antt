@@ -1,5 +1,5 @@
 -- The worked run with wrong answers.
-use Rattle.std.proofs.Common.{◌≡◌, ◌≤◌, ◌<◌, ◌+◌, ℕ, Bool, false, List, [], ◌∷◌, ◌++◌, Option, None, Some, length, refl, ap, sym, subst, ◌∙◌, arith}
+use Rattle.std.proofs.Common.{◌≡◌, ◌≤◌, ℕ, Bool, false, List, [], ◌∷◌, Option, None, Some, refl, ap, sym, subst, ◌∙◌, arith}
 use Rattle.std.specs.Prelude.{codes, map}
 use Rattle.life_table.specs.declared.key.Key.{Key}
 use Rattle.life_table.specs.declared.types.Entry.{Entry}
@@ -11,10 +11,10 @@ use Rattle.life_table.specs.History.{Leads}
 use Rattle.script.specs.declared.types.Command.TheVariants as command
 use Rattle.script.specs.declared.types.Spoken.TheVariants as spoken
 use Rattle.script.specs.declared.answers.LineReply.TheVariants as line
-use Rattle.script.specs.declared.answers.Said.TheVariants.{Of, Line}
+use Rattle.script.specs.declared.answers.Said.TheVariants.{Of}
 use Rattle.script.specs.declared.status.Status.TheVariants as status
-use Rattle.run_history.specs.Mounts.{Ending, MountStory, acknowledged_by, left, unmounted}
-use Rattle.run_history.specs.States.{Binding, PastCall, RunState, UpMount, ends_as, mounts_of, run_begins, went_to_end}
+use Rattle.run_history.specs.Mounts.{Ending, MountStory, acknowledged_by, left}
+use Rattle.run_history.specs.States.{Binding, PastCall, RunState, UpMount, ends_as, mounts_of, run_begins}
 use Rattle.run_history.specs.Answers.{Answers, AnswersLine, line_said}
 use Rattle.run_history.specs.Linear.{AreLegalFrom}
 use Rattle.run_history.specs.NextMount.{Follow}

@@ -1,6 +1,6 @@
 -- Which answer each line of a script may have, and what it leaves of the run. What the script, the names, the table and the entries decide is decided here, both
 -- ways; what a disk decides is which of several answers comes.
-use Rattle.std.specs.Prelude.{◌≡◌, ◌≢◌, ◌<◌, ◌+◌, ◌⊎◌, ⊤, ℕ, true, List, [], ◌∷◌, ◌++◌, Option, None, Some, Result, MatchOption, MatchResult, IsSome, length, map, slice_get, sum_by, take}
+use Rattle.std.specs.Prelude.{◌≡◌, ◌<◌, ◌+◌, ◌⊎◌, ℕ, true, List, [], ◌∷◌, ◌++◌, Option, None, Some, MatchOption, MatchResult, IsSome, length, slice_get, sum_by, take}
 use Rattle.std.specs.List.{flat_map, range_with_len}
 use Rattle.life_limits.specs.declared.TheConstants.{MAX_ACTORS}
 use Rattle.life_table.specs.declared.key.Key.{Key}

@@ -1,5 +1,5 @@
 -- What the first image decides of a run: whether a mount may come up, and what a mount line says of an image that is not sound.
-use Rattle.std.specs.Prelude.{◌≡◌, ◌≤◌, ⊤, ℕ, List, Option, None, Some, length, slice_get}
+use Rattle.std.specs.Prelude.{◌≡◌, ◌≤◌, ⊤, ℕ, List, None, Some, length, slice_get}
 use Rattle.life_bytes.specs.declared.sector.Sector.{Sector}
 use Rattle.disk_model.specs.Disk.{Cell, IsImage}
 use Rattle.life_table.specs.declared.types.MountRecord.{MountRecord}

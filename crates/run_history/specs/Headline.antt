@@ -1,21 +1,18 @@
 -- The headline: whatever the lines of a script order, their answers are those of one legal history for each mount, each call's entry between its begin and its end;
 -- and whatever a crash then leaves represents the table after a prefix of the changes that has each acknowledged one, from which the next mount begins.
-use Rattle.std.specs.Prelude.{◌≡◌, ◌≤◌, ◌<◌, ◌⊎◌, ⊤, ℕ, List, [], ◌∷◌, Some, length, map, slice_get, take}
+use Rattle.std.specs.Prelude.{◌≡◌, ◌≤◌, ◌⊎◌, ℕ, List, Some, length, map, slice_get, take}
 use Rattle.life_bytes.specs.declared.sector.Sector.{Sector}
-use Rattle.geometry.specs.declared.shape.Damaged.{Damaged}
 use Rattle.disk_model.specs.Disk.{Cell}
 use Rattle.life_table.specs.declared.types.MountRecord.{MountRecord}
 use Rattle.life_table.specs.declared.table.Table.{Table}
-use Rattle.whole_image.specs.Damage.{IsFirstDamage, IsSound}
 use Rattle.whole_image.specs.Represents.{Represents}
 use Rattle.script.specs.declared.types.Line.{Line as ScriptLine}
-use Rattle.script.specs.declared.answers.LineReply.TheVariants as line
 use Rattle.script.specs.declared.answers.Said.{Said}
 use Rattle.script.specs.declared.status.Status.{Status}
 use Rattle.script.specs.declared.status.Status.TheVariants as status
 use Rattle.run_history.specs.Mounts.{MountStory}
 use Rattle.run_history.specs.States.{RunState, calls_of, mounts_of, run_begins}
-use Rattle.run_history.specs.Answers.{Answers, BreaksOff, line_said}
+use Rattle.run_history.specs.Answers.{Answers, BreaksOff}
 use Rattle.run_history.specs.Linear.{AreBetween, AreLegalFrom}
 use Rattle.run_history.specs.NextMount.{NextMount}
 use Rattle.run_history.specs.CrashSafe.{CrashSafe}

@@ -1,5 +1,5 @@
 -- What happened in each mount is one legal history, in which each call's entry stands between its begin and its end.
-use Rattle.std.specs.Prelude.{◌≡◌, ◌==◌, ◌<◌, ◌+◌, ◌&&◌, ⊤, ℕ, List, [], ◌∷◌, Option, Some, Contains, is_none, if◌then◌else◌}
+use Rattle.std.specs.Prelude.{◌≡◌, ◌==◌, ◌<◌, ◌+◌, ◌&&◌, ⊤, ℕ, List, [], ◌∷◌, Some, Contains, is_none, if◌then◌else◌}
 use Rattle.life_table.specs.declared.table.Table.{Table}
 use Rattle.life_table.specs.History.{LegalHistory}
 use Rattle.actor_world.specs.Licence.{Interval, Licensed, Unfinished}

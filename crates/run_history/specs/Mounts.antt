@@ -1,7 +1,7 @@
 -- The mounts of a run: the table from which each begins, what is recorded of it, and how it ended.
-use Rattle.std.specs.Prelude.{◌+◌, ℕ, List, [], ◌∷◌, ◌++◌, length, max}
+use Rattle.std.specs.Prelude.{ℕ, List, [], ◌∷◌, length, max}
 use Rattle.life_table.specs.declared.types.Event.{Event}
-use Rattle.life_table.specs.declared.types.Event.TheVariants.{Called, Freed}
+use Rattle.life_table.specs.declared.types.Event.TheVariants.{Called}
 use Rattle.life_table.specs.declared.types.Reply.TheVariants as reply
 use Rattle.life_table.specs.declared.types.Entry.{Entry}
 use Rattle.life_table.specs.declared.types.MountRecord.{MountRecord}

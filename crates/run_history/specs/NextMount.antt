@@ -1,5 +1,5 @@
 -- How the mounts of a run follow each other.
-use Rattle.std.specs.Prelude.{◌≡◌, ◌≤◌, ◌+◌, ◌*◌, ◌%◌, ⊤, ℕ, List, [], ◌∷◌, Option, Some, length, slice_get, take}
+use Rattle.std.specs.Prelude.{◌≡◌, ◌≤◌, ◌+◌, ◌*◌, ◌%◌, ⊤, ℕ, List, [], ◌∷◌, Some, length, slice_get, take}
 use Rattle.std.specs.List.{AllByRecursion}
 use Rattle.life_limits.specs.declared.TheConstants.{BUCKETS, MAX_ACTORS}
 use Rattle.life_table.specs.declared.key.Key.{Key}

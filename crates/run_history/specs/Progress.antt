@@ -1,5 +1,5 @@
 -- A run that has come so far, which is what a loop over the lines keeps.
-use Rattle.std.specs.Prelude.{◌≤◌, ℕ, List, length, take}
+use Rattle.std.specs.Prelude.{◌≤◌, List, length, take}
 use Rattle.life_table.specs.declared.table.Table.{Table}
 use Rattle.script.specs.declared.types.Line.{Line as ScriptLine}
 use Rattle.script.specs.declared.answers.Said.{Said}

@@ -10,13 +10,12 @@ use Rattle.life_table.specs.declared.types.Entry.{Entry}
 use Rattle.life_table.specs.declared.types.MountRecord.{MountRecord}
 use Rattle.life_table.specs.declared.table.Table.{Table}
 use Rattle.life_table.specs.Table.{empty_table}
-use Rattle.script.specs.declared.types.Command.{Command}
 use Rattle.script.specs.declared.types.Command.TheVariants as command
 use Rattle.script.specs.declared.types.Line.{Line as ScriptLine}
 use Rattle.script.specs.declared.types.Spoken.TheVariants as spoken
 use Rattle.script.specs.declared.answers.LineReply.TheVariants as line
 use Rattle.script.specs.declared.answers.Said.{Said}
-use Rattle.script.specs.declared.answers.Said.TheVariants.{Of, Line}
+use Rattle.script.specs.declared.answers.Said.TheVariants.{Of}
 use Rattle.run_history.specs.Answers.{line_said}
 
 -- one group of the least size without a chunk

@@ -1,6 +1,5 @@
 -- A run between two lines: what names are bound to, which mount is up and what was recorded of it so far, and which calls were made.
-use Rattle.std.specs.Prelude.{◌==◌, ◌+◌, ℕ, Bool, true, false, List, [], ◌∷◌, ◌++◌, Option, None, Some, Result, Ok, Err, if◌then◌else◌, nat_le, nat_lt, filter, length, map, max, replicate, slice_get}
-use Rattle.std.specs.List.{list_any}
+use Rattle.std.specs.Prelude.{◌==◌, ◌+◌, ℕ, Bool, true, false, List, [], ◌∷◌, ◌++◌, Option, None, Some, Result, Ok, Err, if◌then◌else◌, nat_le, nat_lt, filter, length, map, max, replicate}
 use Rattle.std.specs.Option.{option_map}
 use Rattle.std.specs.Str.{bytes_eq}
 use Rattle.life_table.specs.declared.key.Key.{Key}
@@ -8,7 +7,7 @@ use Rattle.life_table.specs.declared.types.Call.{Call}
 use Rattle.life_table.specs.declared.types.Call.TheVariants as call
 use Rattle.life_table.specs.declared.types.Reply.TheVariants as reply
 use Rattle.life_table.specs.declared.types.Event.{Event}
-use Rattle.life_table.specs.declared.types.Event.TheVariants.{Called, Freed}
+use Rattle.life_table.specs.declared.types.Event.TheVariants.{Called}
 use Rattle.life_table.specs.declared.types.Entry.{Entry}
 use Rattle.life_table.specs.declared.types.MountRecord.{MountRecord}
 use Rattle.life_table.specs.declared.table.Table.{Table}

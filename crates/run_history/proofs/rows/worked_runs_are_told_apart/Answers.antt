@@ -1,4 +1,4 @@
-use Rattle.std.proofs.Common.{◌≡◌, ◌≤◌, ℕ, length, refl, ap, arith}
+use Rattle.std.proofs.Common.{◌≡◌, length, refl, ap, arith}
 use Rattle.std.specs.Fmt.{digits}
 use Rattle.run_history.specs.Rows.{row_output}
 use Rattle.run_history.proofs.RightRow.{right_history}
