@@ -10,3 +10,4 @@ pub mod Answered
 pub mod Progressing
 pub mod Intervals
 pub mod KeptWalks
+pub mod BesideRow

@@ -7,6 +7,10 @@ pub Mem : {X : Type 0} → X → List X → Type 0
 Mem x [] = ⊥
 Mem x (y ∷ ys) = (x ≡ y) ⊎ Mem x ys
 
+pub mem-head : {X : Type 0} (x : X) (xs : List X) → Mem x (x ∷ xs)
+unfolding Mem
+mem-head x xs = inl refl
+
 pub no_member : {X : Type 0} (x : X) → Mem x [] → ⊥
 unfolding Mem
 no_member x m = m

@@ -91,3 +91,39 @@ row_texts =
 -- what is written of so many of them
 abbrev pub row_output : ℕ → List ℕ
 row_output count = flat_map line_end (take count row_texts)
+
+-- ---- two actors, by steps
+
+-- A makes a file and begins to unlink it; B opens it between A's steps, and waits for A's lock with its next call.
+abbrev pub beside_lines : List ScriptLine
+beside_lines =
+    record { number = 1; command = command.Mount }
+    ∷ record { number = 2; command = command.Whole 0 (spoken.Create 0 (codes "a")) }
+    ∷ record { number = 3; command = command.Begin 0 (spoken.Unlink (codes "a")) }
+    ∷ record { number = 4; command = command.Step 0 }
+    ∷ record { number = 5; command = command.Step 0 }
+    ∷ record { number = 6; command = command.Whole 1 (spoken.Open (codes "a")) }
+    ∷ record { number = 7; command = command.Whole 1 (spoken.Stat (codes "a")) }
+    ∷ record { number = 8; command = command.Finish 0 }
+    ∷ record { number = 9; command = command.Finish 1 }
+    ∷ []
+
+abbrev pub beside_said : List Said
+beside_said =
+    line_said (line.Mounted 0 0) ∷ Of 0 0 ∷ line_said line.Begun ∷ line_said line.Went ∷ line_said line.Went ∷ Of 0 2 ∷ line_said (line.Waits 0) ∷ Of 0 1 ∷ Of 0 3 ∷ []
+
+-- the entries stand in the order in which the steps made them, each with the number of entries at its call's begin
+abbrev pub beside_record : MountRecord
+beside_record = record {
+  base = 1;
+  kept = 0;
+  freed = 0;
+  entries =
+      by_first_actor (Called (call.Create 0) (reply.Made key_a))
+      ∷ by_first_actor (Called (call.Unlink key_a) reply.Done)
+      ∷ record { actor = 1; event = Called (call.OpenKey key_a) reply.Done }
+      ∷ record { actor = 1; event = Called (call.Stat key_a) (reply.Shown key_a 0 0 []) }
+      ∷ [];
+  froms = 0 ∷ 1 ∷ 2 ∷ 3 ∷ [];
+  acknowledged = 0;
+}

@@ -10,4 +10,4 @@ pub use laws::{
     one_answer_a_line, runs_go_on, runs_join, runs_without_lines_are_crash_safe,
     tables_of_mounts_are_well_formed,
 };
-pub use rows::worked_runs_are_told_apart;
+pub use rows::{steps_of_two_actors_are_told, worked_runs_are_told_apart};
