@@ -1,21 +1,20 @@
 -- What the calls of readers and keepers leave, and how these are made.
-use Rattle.std.proofs.Common.{◌≡◌, ◌≢◌, ℕ, zero, suc, ◌+◌, ◌-◌, ◌<◌, ◌≤◌, Bool, cond, eqb, eq-eqb, max, List, [], ◌∷◌, ◌++◌, length, set, get_or, replicate, refl, sym, ap, ◌∙◌, subst, length-append, arith}
+use Rattle.std.proofs.Common.{◌≡◌, ℕ, zero, suc, ◌+◌, ◌-◌, ◌<◌, ◌≤◌, Bool, cond, eq-eqb, max, List, [], ◌∷◌, ◌++◌, length, set, get_or, replicate, refl, sym, ap, ◌∙◌, subst, length-append, arith}
 use Rattle.std.specs.Prelude.{slice_get, Some}
 use Rattle.std.proofs.lemmas.List.{length-set, length-replicate, get_or-replicate, replicate-append-replicate, append-nil}
 use mathlib.Core.List.{IsPrefix}
-use mathlib.Core.Option.{none, some}
+use mathlib.Core.Option.{some}
 use mathlib.Core.Logic.{dite}
 use native.Mathlib.Decide.{ℕ_discrete}
 use lib.ListN.{get_elem?}
 use Rattle.life_table.specs.declared.types.Entry.{Entry}
 use Rattle.atomic_table.specs.Seated.{TableId}
-use Rattle.atomic_table.specs.Table.{State, Me, step}
+use Rattle.atomic_table.specs.Table.{State, Me}
 use Rattle.version_table.specs.declared.story.Sight.{Sight}
 use Rattle.version_table.specs.declared.story.Line.{Line}
 use Rattle.version_table.specs.declared.story.Story.{Story}
 use Rattle.version_table.specs.Story.{sight, line, longer, seen_of, known_of, own_place, Keeps, new_keeper, nothing_known, saw, entered, warning, telling, handed_over, with_story}
-use Rattle.version_table.specs.Rule.{Fits, Told}
-use Rattle.version_table.specs.Steps.{Loaded}
+use Rattle.version_table.specs.Rule.{Told}
 use Rattle.version_table.specs.Ends.{VersionsState, ReaderState, KeeperState, reader_state, new_reader, new_keeper_state, IsReader, IsKeeper, IsMaker, AreVersionKeepers, IsEntered, IsToldOf}
 use Rattle.version_table.proofs.Lists.{at_word, by_test, longer-first}
 

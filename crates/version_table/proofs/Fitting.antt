@@ -1,15 +1,14 @@
 -- What one knows fits the histories, after each change of it.
-use Rattle.std.proofs.Common.{◌≡◌, ◌≢◌, ℕ, ◌+◌, ◌<◌, ◌≤◌, ◌⊎◌, Bool, cond, eqb, eq-eqb, max, List, [], ◌∷◌, ◌++◌, length, sym, refl, ap, ◌∙◌, subst, inl, inr, ⊎_elim, arith, length-append}
+use Rattle.std.proofs.Common.{◌≡◌, ℕ, ◌+◌, ◌<◌, ◌≤◌, Bool, cond, eqb, eq-eqb, max, List, [], ◌∷◌, ◌++◌, length, sym, refl, ap, ◌∙◌, subst, ⊎_elim, arith, length-append}
 use mathlib.Core.List.{IsPrefix}
 use mathlib.Core.Logic.{dite}
 use native.Mathlib.Decide.{ℕ_discrete}
 use Rattle.life_table.specs.declared.types.Entry.{Entry}
-use Rattle.version_table.specs.declared.story.Sight.{Sight}
 use Rattle.version_table.specs.declared.story.Line.{Line}
 use Rattle.version_table.specs.declared.story.Story.{Story}
 use Rattle.version_table.specs.Story.{sight, line, seen_of, longer, known_of, times, own_place, Keeps, new_keeper, nothing_known, saw, entered, warning, telling, handed_over, with_story}
 use Rattle.version_table.specs.Rule.{Fits}
-use Rattle.version_table.proofs.Lists.{by_test, seen_of-append, seen_of-first, longer-first, known_of-append, IsLonger, prefix_refl, prefix_more, prefix_whole, times-append, times-own_else}
+use Rattle.version_table.proofs.Lists.{by_test, seen_of-append, seen_of-first, longer-first, known_of-append, prefix_refl, prefix_more, prefix_whole, times-append, times-own_else}
 
 -- the histories after one more entry of a group
 abbrev pub after_entry : (ℕ → List Entry) → ℕ → Entry → ℕ → List Entry

@@ -1,6 +1,6 @@
 -- Lists of sights, lines and places, and of all who know of them.
-use Rattle.std.proofs.Common.{◌≡◌, ◌≢◌, ℕ, zero, suc, ◌+◌, ◌<◌, ◌≤◌, ◌⊎◌, Bool, true, false, cond, eqb, eq-eqb, ne_eqb, ◌&&◌, max, List, [], ◌∷◌, ◌++◌, length, set, get_or, sym, refl, ap, ◌∙◌, subst, inl, inr, ⊎_elim, arith, append_assoc, length-append, nat_lt}
-use Rattle.std.proofs.lemmas.Bool.{cases_Bool, cases_lt, and_parts, and_from, eqb-true, false_from_ne_true, lt-ltb, le-ltb}
+use Rattle.std.proofs.Common.{◌≡◌, ◌≢◌, ℕ, zero, suc, ◌+◌, ◌<◌, ◌≤◌, ◌⊎◌, Bool, true, false, cond, eqb, eq-eqb, ne_eqb, ◌&&◌, max, List, [], ◌∷◌, ◌++◌, length, set, get_or, sym, refl, ap, ◌∙◌, subst, inl, inr, ⊎_elim, arith, append_assoc, nat_lt}
+use Rattle.std.proofs.lemmas.Bool.{cases_lt, and_parts, and_from, eqb-true, false_from_ne_true, lt-ltb, le-ltb}
 use Rattle.std.proofs.lemmas.List.{append-nil, length-set, get_or-set_same, get_or-set_other}
 use mathlib.Core.List.{IsPrefix}
 use mathlib.Core.Logic.{dite}
@@ -14,7 +14,7 @@ use Rattle.version_table.specs.declared.story.Sight.{Sight}
 use Rattle.version_table.specs.declared.story.Line.{Line}
 use Rattle.version_table.specs.declared.story.Place.{Place}
 use Rattle.version_table.specs.declared.story.Story.{Story}
-use Rattle.version_table.specs.Story.{sight, line, place, one_if, seen_of, longer, known_of, times, own_place, first_sight}
+use Rattle.version_table.specs.Story.{place, one_if, seen_of, longer, known_of, times, own_place, first_sight}
 use Rattle.version_table.specs.Rule.{total, owed}
 
 pub total-append : (f : Story → ℕ) (l m : List Story) → total f (l ++ m) ≡ total f l + total f m

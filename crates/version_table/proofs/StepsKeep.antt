@@ -1,22 +1,21 @@
 -- Each kind of step keeps the rule of the versions.
-use Rattle.std.proofs.Common.{◌≡◌, ◌≢◌, ℕ, zero, suc, ◌+◌, ◌-◌, ◌^◌, ◌<◌, ◌≤◌, ◌⊎◌, Bool, cond, eqb, eq-eqb, List, [], ◌∷◌, ◌++◌, length, set, get_or, replicate, refl, sym, ap, ◌∙◌, subst, inl, inr, ⊎_elim, length-append, nat_lt, arith}
+use Rattle.std.proofs.Common.{◌≡◌, ◌≢◌, ℕ, zero, suc, ◌+◌, ◌-◌, ◌<◌, ◌≤◌, Bool, eqb, eq-eqb, List, [], ◌∷◌, ◌++◌, length, set, get_or, replicate, refl, sym, ap, ◌∙◌, subst, inl, inr, ⊎_elim, length-append, nat_lt, arith}
 use Rattle.std.proofs.lemmas.List.{length-set, get_or-replicate, get_or_past, length-replicate, set-get_or}
 use Rattle.std.proofs.lemmas.Bool.{cases_lt}
-use mathlib.Core.List.{IsPrefix}
-use mathlib.Core.Option.{Option, none, some, some-injective, some-ne-none}
+use mathlib.Core.Option.{none, some, some-injective, some-ne-none}
 use mathlib.Core.Logic.{dite}
 use native.Mathlib.Decide.{ℕ_discrete}
 use lib.ListN.{get_elem?}
 use prog.Atomic.{either}
 use Rattle.life_table.specs.declared.types.Entry.{Entry}
-use Rattle.atomic_table.specs.Table.{State, Me, step, stepped, Act, keeps, carried_after, Valid, Allows, Splits, Joins, opening}
+use Rattle.atomic_table.specs.Table.{State, Me, step, stepped, keeps, Allows, Splits, Joins, opening}
 use Rattle.atomic_table.proofs.Lists.{at_set}
 use Rattle.life_limits.specs.declared.TheConstants.{MAX_ACTORS}
 use Rattle.version_table.specs.declared.story.Story.{Story}
-use Rattle.version_table.specs.Story.{seen_of, known_of, times, own_place, one_if, Keeps, new_keeper, nothing_known, saw, entered, warning, telling, handed_over, with_story}
-use Rattle.version_table.specs.Rule.{total, owed, Fits, Told}
+use Rattle.version_table.specs.Story.{known_of, times, own_place, one_if, Keeps, new_keeper, nothing_known, saw, entered, warning, telling, handed_over, with_story}
+use Rattle.version_table.specs.Rule.{owed, Fits, Told}
 use Rattle.version_table.specs.Steps.{Loaded, Entered}
-use Rattle.version_table.proofs.Lists.{total-append, total-set, inside_list, at_view, at_split, at_word, by_test, times-append, times-own, times-own_else, owed-end, owed-else}
+use Rattle.version_table.proofs.Lists.{total-append, total-set, at_view, at_split, at_word, by_test, times-append, times-own, times-own_else, owed-end, owed-else}
 use Rattle.version_table.proofs.Fitting.{after_entry, Fits-keeper, keeps_none, Fits-saw, Fits-both, Fits-warning, Fits-handed, Fits-other, Fits-entered, Fits-telling}
 
 -- two keep the same histories

@@ -1,5 +1,5 @@
 -- What a reader or a keeper knows of the histories, and how its steps change that.
-use Rattle.std.specs.Prelude.{◌≡◌, ◌+◌, ◌-◌, ◌<◌, ◌≤◌, ◌==◌, ◌&&◌, ℕ, Bool, zero, suc, max, nat_lt, List, [], ◌∷◌, ◌++◌, length, if◌then◌else◌}
+use Rattle.std.specs.Prelude.{◌+◌, ◌<◌, ◌≤◌, ◌==◌, ◌&&◌, ℕ, Bool, max, nat_lt, List, [], ◌∷◌, ◌++◌, length, if◌then◌else◌}
 use Rattle.life_limits.specs.declared.TheConstants.{MAX_ACTORS}
 use Rattle.life_table.specs.declared.types.Entry.{Entry}
 use Rattle.version_table.specs.declared.story.Sight.{Sight}

@@ -23,7 +23,7 @@ mod telling;
 mod versions;
 
 pub use keeper::VersionKeeper;
-pub use laws::no_sight_is_ahead;
+pub use laws::{each_entry_has_one_owner, no_sight_is_ahead};
 pub use make::{VersionParts, make_versions};
 pub use reader::Reader;
 pub use versions::Versions;

@@ -1,4 +1,4 @@
-use Rattle.std.proofs.Common.{[], ap, sym, ◌∙◌, arith, rules}
+use Rattle.std.proofs.Common.{[], ap, ◌∙◌, arith, rules}
 use Rattle.life_table.specs.declared.types.Entry.{Entry}
 use Rattle.atomic_table.specs.Table.{Me}
 use Rattle.version_table.specs.declared.story.Story.{Story}

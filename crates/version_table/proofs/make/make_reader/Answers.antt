@@ -1,7 +1,6 @@
-use Rattle.std.proofs.Common.{ap, sym, ◌∙◌, arith, rules}
+use Rattle.std.proofs.Common.{ap, arith, rules}
 use Rattle.version_table.specs.Ends.{VersionsState}
 use Rattle.version_table.proofs.StepsKeep.{makes_reader}
-use Rattle.version_table.proofs.Calls.{new_reader_is, new_reader_seen}
 use Rattle.version_table.proofs.make.make_reader.Goals as goal
 
 pub split_seat-seat-requires : goal.split_seat-seat-requires

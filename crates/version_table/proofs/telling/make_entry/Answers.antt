@@ -1,8 +1,8 @@
-use Rattle.std.proofs.Common.{ap, arith, refl, ◌∙◌}
+use Rattle.std.proofs.Common.{ap, ◌∙◌}
 use Rattle.life_table.specs.declared.types.Entry.{Entry}
 use Rattle.atomic_table.specs.Table.{Me}
 use Rattle.version_table.specs.declared.story.Story.{Story}
-use Rattle.version_table.specs.Story.{entered, handed_over, telling, with_story}
+use Rattle.version_table.specs.Story.{handed_over, telling, with_story}
 use Rattle.version_table.proofs.Calls.{entered_is, told_is, fresh_is}
 use Rattle.version_table.proofs.telling.make_entry.Goals as goal
 
