@@ -1,5 +1,5 @@
 -- What two steps of a keeper come to.
-use Rattle.std.proofs.Common.{◌≡◌, ℕ, ◌≤◌, Bool, true, false, true≢false, cond, eqb, eq-eqb, ne_eqb, ◌∷◌, refl, sym, ap, ◌∙◌, subst, inl, inr, arith, Some, None}
+use Rattle.std.proofs.Common.{◌≡◌, ℕ, ◌≤◌, Bool, true, false, true≢false, cond, eqb, eq-eqb, ne_eqb, List, ◌∷◌, refl, sym, ap, ◌∙◌, subst, inl, inr, arith, Some, None}
 use mathlib.Core.Option.{none}
 use mathlib.Core.Logic.{dite}
 use native.Mathlib.Decide.{ℕ_discrete}
@@ -7,9 +7,10 @@ use Rattle.atomic_table.specs.Table.{Me, step}
 use Rattle.slot_words.specs.declared.word.Word.{Word}
 use Rattle.slot_words.specs.Words.{numbered}
 use Rattle.slot_words.specs.Steps.{is_awaiting, after_install, after_retire, after_kill}
+use Rattle.word_table.specs.declared.known.Look.{Look}
 use Rattle.word_table.specs.declared.known.Known.{Known}
 use Rattle.word_table.specs.Words.{parts_of, IsStill, Tells}
-use Rattle.word_table.specs.Known.{hold, times, without, last_of, looked, pinned, unpinned, Keeps}
+use Rattle.word_table.specs.Known.{hold, times, without, last_of, looked, pinned, unpinned, with_looks, Keeps}
 use Rattle.word_table.specs.Steps.{Looked, WordChanged, Installed}
 use Rattle.word_table.specs.Replies.{IsTaken, IsInstalled, IsInstalledHeld, Retired, Killed}
 use Rattle.word_table.proofs.Lists.{times-same, is_hold-here}
@@ -42,7 +43,7 @@ brought slots place generation seen next found unlinked me0 me1 me2 own away st1
     let same : seen ≡ last = (st1.tells own).still (inl away) in
     let after = seen_last place seen me0.0 me1.0 st1.view in
     let dead : IsStill (parts_of (last_of place me1.0.looks)) = inl (ap (λ (n : ℕ). (parts_of n).live) after ∙ makes.away) in
-    let hit : found ≡ seen = st2.rests (Keeps-same (looked place seen me0.0) me1.0 place st1.view own) dead ∙ after in
+    let hit : found ≡ seen = (st2.tells (Keeps-same (looked place seen me0.0) me1.0 place st1.view own)).still dead ∙ after in
     let born : (parts_of next).generation ≡ generation = ap (λ (w : Word). w.generation) makes.more in (
       next,
       subst (λ (n : ℕ). Some next ≡ numbered (after_install generation unlinked (parts_of n))) same is,
@@ -57,7 +58,7 @@ retired_by slots place seen next found me0 me1 me2 own st1 is st2 = dite (ℕ_di
     (λ hit. subst (λ (b : Bool). Retired place me0.0 b me2.0) (sym (eq-eqb found seen hit))
     (seen, next, st1.tells own, is, st2.hit hit ∙ ap (looked place next) st1.view))
     (λ miss. subst (λ (b : Bool). Retired place me0.0 b me2.0) (sym (ne_eqb found seen miss))
-    (inr (seen, found, st1.tells own, (λ none_next. let wrong : Some next ≡ None = is ∙ ap numbered none_next in absurd (cc)), miss, st2.miss miss ∙ ap (looked place found) st1.view)))
+    (inr (seen, found, st1.tells own, (λ none_next. let wrong : Some next ≡ None = is ∙ ap numbered none_next in absurd (cc)), miss, subst (λ (l : ℕ). Tells found l) (seen_last place seen me0.0 me1.0 st1.view) (st2.tells (Keeps-same (looked place seen me0.0) me1.0 place st1.view own)), st2.miss miss ∙ ap (looked place found) st1.view)))
 
 -- the exchange of a word that only its keeper changes is made
 pub killed_by : (slots place generation seen next found : ℕ) (me0 me1 me2 : Me ℕ Known) → Keeps me0.0 place → Looked (step slots place 0 0 none) me0 seen me1
@@ -65,7 +66,7 @@ pub killed_by : (slots place generation seen next found : ℕ) (me0 me1 me2 : Me
 killed_by slots place generation seen next found me0 me1 me2 own st1 makes st2 =
     let after = seen_last place seen me0.0 me1.0 st1.view in
     let waits : IsStill (parts_of (last_of place me1.0.looks)) = subst (λ (n : ℕ). IsStill (parts_of n)) (sym after) (inr (makes.mark, makes.no_pins)) in
-    st2.rests (Keeps-same (looked place seen me0.0) me1.0 place st1.view own) waits ∙ after
+    (st2.tells (Keeps-same (looked place seen me0.0) me1.0 place st1.view own)).still waits ∙ after
 
 pub killed_is : (slots place generation seen next found : ℕ) (me0 me1 me2 : Me ℕ Known) → Keeps me0.0 place → Looked (step slots place 0 0 none) me0 seen me1
     → Some next ≡ numbered (after_kill generation (parts_of seen)) → Kills generation seen next → WordChanged (step slots place seen next none) me1 found me2
@@ -96,3 +97,21 @@ pub has_pin : (place generation : ℕ) (unlinked : Bool) (v held : Known) → Is
 has_pin place generation unlinked v held is =
     let u = looked place is.0 (looked place (last_of place v.looks) v) in
     subst (λ (x : Known). 1 ≤ times place generation x.pins) (sym is.2) (omega (arith, times-same place generation u.pins))
+
+-- what a call leaves but for what was seen
+pub same_but : (v w : Known) (looks : List Look) → w ≡ with_looks looks v → w ≡ with_looks w.looks v
+same_but v w looks is = is ∙ ap (λ (u : Known). with_looks u.looks v) (sym is)
+
+pub taken_stays : (place generation : ℕ) (v w : Known) → IsTaken place generation v w → w ≡ with_looks w.looks (pinned place generation v)
+taken_stays place generation v w is = same_but (pinned place generation v) w _ is.3
+
+pub installed_stays : (place generation : ℕ) (unlinked : Bool) (v w : Known) → IsInstalled place generation unlinked v w → w ≡ with_looks w.looks v
+installed_stays place generation unlinked v w is = same_but v w _ is.2
+
+pub retired_stays : (place : ℕ) (v : Known) (b : Bool) (w : Known) → Retired place v b w → w ≡ with_looks w.looks v
+retired_stays place v true w is = same_but v w _ is.4
+retired_stays place v false w is = elim is [ inl none_next ↦ same_but v w _ none_next.3 | inr raced ↦ same_but v w _ raced.6 ]
+
+pub killed_stays : (place generation : ℕ) (v : Known) (b : Bool) (w : Known) → Killed place generation v b w → w ≡ with_looks w.looks v
+killed_stays place generation v true w is = same_but v w _ is.4
+killed_stays place generation v false w is = same_but v w _ is.3

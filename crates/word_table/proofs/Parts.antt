@@ -8,7 +8,7 @@ use Rattle.std.specs.Int.Bits.{bit_or, bit_and, or_add_and}
 use Rattle.life_limits.specs.declared.TheConstants.{MAX_PINS}
 use Rattle.slot_words.specs.declared.word.Word.{Word}
 use Rattle.slot_words.specs.Words.{IsWord, WordsAreNumbers, digit, number_of, numbered, word_of}
-use Rattle.slot_words.specs.Steps.{is_cached, is_awaiting, is_pinned, is_idle, can_open, after_open, after_mark, after_install, after_retire, after_kill}
+use Rattle.slot_words.specs.Steps.{is_cached, is_awaiting, is_pinned, is_idle, can_open, after_open, after_close, after_mark, after_install, after_retire, after_kill}
 use Rattle.word_table.specs.Words.{parts_of, IsPinned, pins_of, IsRight, IsStill, Tells}
 use Rattle.word_table.specs.Steps.{CanChange, CanInstall}
 
@@ -136,19 +136,29 @@ has_pins : (n : ℕ) → 1 ≤ (parts_of n).pins → 1 ≤ n
 unfolding parts_of
 has_pins n some_pin = omega arith
 
+is_pinned-here : (generation : ℕ) (word : Word) → IsPinned generation word → is_pinned word ≡ true
+is_pinned-here generation word is = and_from word.live (nat_lt 0 word.pins) is.live (lt-ltb 0 word.pins is.pins)
+
+-- the number is at least 1
+pub one_off : (n generation : ℕ) → n < 2 ^ 64 → IsPinned generation (parts_of n) → (n + (2 ^ 64 - 1)) % 2 ^ 64 ≡ n - 1
+one_off n generation small is = let least : 1 ≤ n = has_pins n is.pins in omega arith
+
 -- one pin is taken off by taking 1 off the number
-pub closes : (laws : WordsAreNumbers) (n generation : ℕ) → n < 2 ^ 64 → IsPinned generation (parts_of n)
-    → parts_of ((n + (2 ^ 64 - 1)) % 2 ^ 64) ≡ record (parts_of n) { pins = (parts_of n).pins - 1 }
+pub record Closes (seen next : ℕ) : Type 0 where
+  pub parts_are : parts_of next ≡ record (parts_of seen) { pins = (parts_of seen).pins - 1 }
+  pub step_is : Some next ≡ numbered (after_close (parts_of seen))
+
+pub closes : (laws : WordsAreNumbers) (n generation : ℕ) → n < 2 ^ 64 → IsPinned generation (parts_of n) → Closes n (n - 1)
 closes laws n generation small is =
     let word = parts_of n in
     let some_pin = is.pins in
     let fits = parts_fit n small laws in
     let less : Word = record word { pins = word.pins - 1 } in
     let whole : number_of word ≡ n = number-parts laws n small in
-    let least : 1 ≤ n = has_pins n some_pin in
-    let down : (n + (2 ^ 64 - 1)) % 2 ^ 64 ≡ n - 1 = omega arith in
-    let one_less : number_of less ≡ n - 1 = omega (arith, whole) in
-    ap parts_of (down ∙ sym one_less) ∙ parts-number laws less (record { generation = fits.generation; unused = fits.unused; pins = omega (arith, fits.pins) })
+    let one_less : n - 1 ≡ number_of less = omega (arith, whole, some_pin) in record {
+      parts_are = ap parts_of one_less ∙ parts-number laws less (record { generation = fits.generation; unused = fits.unused; pins = omega (arith, fits.pins) });
+      step_is = ap Some one_less ∙ sym (ap (λ (b : Bool). numbered (cond b (Some less) None)) (is_pinned-here generation word is));
+    }
 
 -- what a retire makes of a word
 pub record Retires (seen next : ℕ) : Type 0 where
@@ -251,9 +261,6 @@ mark_bit n = elim (cases_eq (n / 2 ^ 30 % 2) 1) [
   | inl one ↦ ap digit (eq-eqb (n / 2 ^ 30 % 2) 1 one) ∙ sym one
   | inr other ↦ let none : n / 2 ^ 30 % 2 ≡ 0 = omega (arith, other) in ap digit (ne_eqb (n / 2 ^ 30 % 2) 1 other) ∙ sym none
 ]
-
-is_pinned-here : (generation : ℕ) (word : Word) → IsPinned generation word → is_pinned word ≡ true
-is_pinned-here generation word is = and_from word.live (nat_lt 0 word.pins) is.live (lt-ltb 0 word.pins is.pins)
 
 pub record Marks (unlinked : Bool) (seen next : ℕ) : Type 0 where
   pub parts_are : parts_of next ≡ record (parts_of seen) { unlinked = unlinked }

@@ -14,9 +14,9 @@ use Rattle.word_table.specs.declared.known.Known.{Known}
 use Rattle.word_table.specs.Words.{parts_of, pins_of, IsPinned, Tells}
 use Rattle.word_table.specs.Known.{look, times, last_of, looked, pinned, unpinned, fronted, Keeps, nothing_known, without_first, first_alone, with_pins}
 use Rattle.word_table.specs.Rule.{Kept}
-use Rattle.word_table.specs.Steps.{Holds, Looked, Pinned, Unpinned, Fronted, WordChanged, Installed, Marked, Unmarked, Rests, CanChange, CanInstall}
+use Rattle.word_table.specs.Steps.{Holds, Looked, Pinned, Unpinned, Fronted, WordChanged, Installed, Marked, Unmarked, CanChange, CanInstall}
 use Rattle.word_table.proofs.Lists.{term_le, times-same, times-other, times-without, times-without_other, times-fronted, times-parts, times-append}
-use Rattle.word_table.proofs.Parts.{Tells-same, Tells-pins, IsRight-pins, pins_of-here, pins_of-other, pinned_word, Opens, open_moves, pinned_moves, closes, pins_of-none, pins_of-dead, Marks, marks, unmarks}
+use Rattle.word_table.proofs.Parts.{Tells-same, Tells-pins, IsRight-pins, pins_of-here, pins_of-other, pinned_word, Opens, open_moves, pinned_moves, one_off, closes, pins_of-none, pins_of-dead, Marks, marks, unmarks}
 use Rattle.word_table.proofs.Kept.{kept, keeper_kept, split_kept, joined_kept, nothing-kept}
 use Rattle.std.specs.Int.Bits.{bit_or, bit_and}
 
@@ -102,12 +102,13 @@ unpins laws count slots id k generation me inside has s was homes at fits =
     let own = holds count s id k me.0 was at in
     let is = own generation has in
     let has_g : 1 ≤ times k g me.0.pins = subst (λ (x : ℕ). 1 ≤ times k x me.0.pins) (sym is.same) has in
-    let less = closes laws n generation fits is in
+    let down : new ≡ n - 1 = one_off n generation fits is in
+    let less = ap parts_of down ∙ (closes laws n generation fits is).parts_are in
     let some_pin = is.pins in
     let fewer : (parts_of new).pins ≡ (parts_of n).pins - 1 = ap (λ (w : Word). w.pins) less in
     let live : (parts_of new).live ≡ true = ap (λ (w : Word). w.live) less ∙ is.live in
     let same : (parts_of new).generation ≡ g = ap (λ (w : Word). w.generation) less in
-    let w = unpinned k g (looked k n me.0) in
+    let w = unpinned k g (looked k (n - 1) (looked k n me.0)) in
     let tells = λ (last : ℕ). Tells-pins n new last ((parts_of n).pins - 1) less (pinned_moves generation (parts_of n) is) in (
       w,
       keeps,
@@ -118,8 +119,8 @@ unpins laws count slots id k generation me inside has s was homes at fits =
           (λ e. subst (λ (x : ℕ). times k x w.pins + pins_of x (parts_of n) ≡ times k x me.0.pins + pins_of x (parts_of new)) e
           (omega (arith, times-without k g me.0.pins has_g, pins_of-here g (parts_of n) is.live refl, pins_of-here g (parts_of new) live same, fewer)))
           (λ ne. omega (arith, times-without_other k g k h me.0.pins (λ e. ne e.1), pins_of-other h (parts_of n) ne, pins_of-other h (parts_of new) (λ e. ne (sym same ∙ e)))))
-          (record { first = refl; count = refl }) (λ j apart. last-apart j k n me.0.looks apart)
-          (λ kept_here. subst (λ (l : ℕ). Tells new l) (sym (last-here k n me.0.looks)) (tells n (Tells-same n)))
+          (record { first = refl; count = refl }) (λ j apart. last-apart j k (n - 1) (look k n ∷ me.0.looks) apart ∙ last-apart j k n me.0.looks apart)
+          (λ kept_here. subst (λ (l : ℕ). Tells new l) (down ∙ sym (last-here k (n - 1) (look k n ∷ me.0.looks))) (Tells-same new))
           (λ i u away has_u kept_here. tells (last_of k u.looks) (was.tells i k u has_u kept_here)),
       record { slots = refl; view = refl; holds = own },
     )
@@ -160,10 +161,6 @@ pub takes_in : (count id : ℕ) (v : Known) (other : ℕ) (w : Known) → Joins 
 takes_in count id v other w s was at two at_other = joined_kept count s id v other w (with_pins v w) (record { first = refl; count = refl }) refl
     (λ place generation. omega (arith, times-append place generation w.pins v.pins)) was at two at_other
 
--- the keeper's last look tells the word, where it was a still one
-rests : (count : ℕ) (s : State ℕ Known) (id k : ℕ) (v : Known) → Kept count s → get_elem? s.views id ≡ some v → Rests k v (get_or s.words k 0)
-rests count s id k v was at own still = (was.tells id k v at own).still still
-
 -- an exchange that leaves a word without pins
 pub changes : (count slots id k seen next : ℕ) (me : Me ℕ Known) → k < count → Keeps me.0 k → CanChange seen next
     → Allows (Kept count) slots id me k (λ n. either (eqb n seen) next n) (WordChanged (step slots k seen next none) me)
@@ -177,14 +174,14 @@ changes count slots id k seen next me inside own can s was homes at fits =
       keeper_kept count s k next id me.0 (looked k next me.0) me.1 was inside at own can.right (λ j g apart. refl)
           (λ g. omega (arith, pins_of-none g (parts_of n) (ap (λ (m : ℕ). (parts_of m).pins) hit ∙ can.none_before), pins_of-none g (parts_of next) can.none_after))
           (record { first = refl; count = refl }) (λ j apart. last-apart j k next me.0.looks apart) (last-here k next me.0.looks),
-      record { slots = refl; hit = λ e. refl; miss = λ ne. absurd (ne hit); rests = rests count s id k me.0 was at },
+      record { slots = refl; hit = λ e. refl; miss = λ ne. absurd (ne hit); tells = λ keeps_it. was.tells id k me.0 at keeps_it },
     ))
     (λ miss. (
       looked k n me.0,
       keeps,
       tt,
       stays count s k id me was inside at,
-      record { slots = refl; hit = λ e. absurd (miss e); miss = λ ne. refl; rests = rests count s id k me.0 was at },
+      record { slots = refl; hit = λ e. absurd (miss e); miss = λ ne. refl; tells = λ keeps_it. was.tells id k me.0 at keeps_it },
     ))
 
 -- an exchange that brings an inode into the cache
@@ -207,14 +204,14 @@ puts_in count slots id k seen next me inside own can s was homes at fits =
           (omega (arith, times-same k g me.0.pins, pins_of-dead g (parts_of n) dead, pins_of-here g (parts_of next) can.here refl, can.one)))
           (λ ne. omega (arith, times-other k h k g me.0.pins (λ e. ne e.1), pins_of-dead h (parts_of n) dead, pins_of-other h (parts_of next) ne)))
           (record { first = refl; count = refl }) (λ j apart. last-apart j k next me.0.looks apart) (last-here k next me.0.looks),
-      record { slots = refl; hit = λ e. refl; miss = λ ne. absurd (ne hit); rests = rests count s id k me.0 was at },
+      record { slots = refl; hit = λ e. refl; miss = λ ne. absurd (ne hit); tells = λ keeps_it. was.tells id k me.0 at keeps_it },
     ))
     (λ miss. (
       looked k n me.0,
       keeps,
       tt,
       stays count s k id me was inside at,
-      record { slots = refl; hit = λ e. absurd (miss e); miss = λ ne. refl; rests = rests count s id k me.0 was at },
+      record { slots = refl; hit = λ e. absurd (miss e); miss = λ ne. refl; tells = λ keeps_it. was.tells id k me.0 at keeps_it },
     ))
 
 -- the keeper's step that gives a pinned word another mark

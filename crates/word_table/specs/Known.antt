@@ -36,6 +36,10 @@ last_of place (l ∷ ls) = if l.place == place then l.word else last_of place ls
 abbrev pub looked : ℕ → ℕ → Known → Known
 looked place word v = record v { looks = look place word ∷ v.looks }
 
+-- what was seen is other, and all else is the same
+abbrev pub with_looks : List Look → Known → Known
+with_looks looks v = record v { looks = looks }
+
 -- one pin more
 abbrev pub pinned : ℕ → ℕ → Known → Known
 pinned place generation v = record v { pins = hold place generation ∷ v.pins }

@@ -4,7 +4,7 @@ use Rattle.life_table.specs.declared.key.Key.{Key}
 use Rattle.slot_words.specs.declared.word.Word.{Word}
 use Rattle.slot_words.specs.declared.sight.Sight.TheVariants.{Open, Crowded as Crowded_word}
 use Rattle.slot_words.specs.Words.{numbered}
-use Rattle.slot_words.specs.Steps.{sight_of, after_install, after_mark, after_retire, after_kill}
+use Rattle.slot_words.specs.Steps.{sight_of, after_close, after_install, after_mark, after_retire, after_kill}
 use Rattle.word_table.specs.declared.known.Known.{Known}
 use Rattle.word_table.specs.declared.cache.Duty.{Duty}
 use Rattle.word_table.specs.declared.session.TryOpen.{TryOpen}
@@ -35,10 +35,12 @@ IsRefusal generation seen (Raced told found) = ⊥
 abbrev pub duty_of : Key → Word → Option Duty
 duty_of key word = if word.unlinked && (word.pins == 1) then Some (record { key = key }) else None
 
--- A release finds the inode in the cache, of the pin's generation, and held.
+-- A release finds the inode in the cache, of the pin's generation, and held, and leaves its word with one pin less.
 abbrev pub Released : ℕ → Key → Known → Option Duty → Known → Type 0
-Released place key v duty w = (found : ℕ) × IsPinned key.generation (parts_of found)
-    × (w ≡ unpinned place key.generation (looked place found v)) × (duty ≡ duty_of key (parts_of found))
+Released place key v duty w = (found left : ℕ) × IsPinned key.generation (parts_of found)
+    × (Some left ≡ numbered (after_close (parts_of found)))
+    × (w ≡ unpinned place key.generation (looked place left (looked place found v)))
+    × (duty ≡ duty_of key (parts_of found))
 
 -- The keeper takes a pin over, and looks at the word: it is held, in that life of the inode.
 abbrev pub IsTaken : ℕ → ℕ → Known → Known → Type 0
@@ -73,10 +75,11 @@ abbrev pub HasNoNext : (Word → Option Word) → ℕ → Known → Known → Ty
 HasNoNext after place v w = (seen : ℕ) × Tells seen (last_of place v.looks)
     × (after (parts_of seen) ≡ None) × (w ≡ looked place seen v)
 
--- The word that was seen has a next one by such a step, and another was found in its place.
+-- The word that was seen has a next one by such a step, and another was found in its place, which differs in its pins.
 abbrev pub WasRaced : (Word → Option Word) → ℕ → Known → Known → Type 0
 WasRaced after place v w = (seen found : ℕ) × Tells seen (last_of place v.looks)
-    × (after (parts_of seen) ≢ None) × (found ≢ seen) × (w ≡ looked place found (looked place seen v))
+    × (after (parts_of seen) ≢ None) × (found ≢ seen) × Tells found seen
+    × (w ≡ looked place found (looked place seen v))
 
 -- An inode with links and without pins is retired; one of which somebody took a pin in between is not.
 abbrev pub Retired : ℕ → Known → Bool → Known → Type 0

@@ -2,8 +2,8 @@
 ghost use Rattle.std.specs.Prelude.{◌≡◌, ◌≤◌, true, false, IsTrue};
 ghost use Rattle.geometry.specs.Places.{IsInodeNumber, place_of};
 ghost use Rattle.slot_words.specs.Steps.{is_awaiting};
-ghost use Rattle.word_table.specs.Words.{parts_of, Tells};
-ghost use Rattle.word_table.specs.Known.{Keeps, last_of, looked, pinned, times, unpinned};
+ghost use Rattle.word_table.specs.Words.{parts_of, IsRight, Tells};
+ghost use Rattle.word_table.specs.Known.{Keeps, last_of, looked, pinned, times, unpinned, with_looks};
 ghost use Rattle.word_table.specs.Steps.{Holds};
 ghost use Rattle.word_table.specs.Replies.{IsInstalled, IsRemarked, IsTaken, Killed, Retired};
 
@@ -45,6 +45,7 @@ impl Keeper {
         ensures looked { let place = place_of cache.now.geometry number in
             self.new ≡ record self.old { known = looked place result self.old.known } }
         ensures holds { Holds (place_of cache.now.geometry number) self.old.known result }
+        ensures right { IsRight (parts_of result) }
         ensures tells { Tells result (last_of (place_of cache.now.geometry number) self.old.known.looks) }
     {
         let place = cache.place(number);
@@ -59,7 +60,9 @@ impl Keeper {
         requires pin { 1 ≤ times (place_of cache.now.geometry pin.now.number) pin.now.generation session.old.known.pins }
         ensures session { let place = place_of cache.now.geometry pin.now.number in
             session.new ≡ record session.old { known = unpinned place pin.now.generation session.old.known } }
-        ensures cache { self.new.cache ≡ self.old.cache }
+        ensures stays { let place = place_of cache.now.geometry pin.now.number in
+            let known = pinned place pin.now.generation self.old.known in
+            self.new ≡ record self.old { known = with_looks self.new.known.looks known } }
         ensures taken { IsTaken (place_of cache.now.geometry pin.now.number) pin.now.generation self.old.known self.new.known }
     {
         let key = pin.key();
@@ -97,7 +100,7 @@ impl Keeper {
         requires inside { IsInodeNumber cache.now.geometry pin.now.number }
         requires keeps { Keeps self.old.known (place_of cache.now.geometry pin.now.number) }
         requires pin { 1 ≤ times (place_of cache.now.geometry pin.now.number) pin.now.generation self.old.known.pins }
-        ensures cache { self.new.cache ≡ self.old.cache }
+        ensures stays { self.new ≡ record self.old { known = with_looks self.new.known.looks self.old.known } }
         ensures marked { let place = place_of cache.now.geometry pin.now.number in
             IsRemarked place pin.now.generation true self.old.known self.new.known }
     {
@@ -112,7 +115,7 @@ impl Keeper {
         requires inside { IsInodeNumber cache.now.geometry pin.now.number }
         requires keeps { Keeps self.old.known (place_of cache.now.geometry pin.now.number) }
         requires pin { 1 ≤ times (place_of cache.now.geometry pin.now.number) pin.now.generation self.old.known.pins }
-        ensures cache { self.new.cache ≡ self.old.cache }
+        ensures stays { self.new ≡ record self.old { known = with_looks self.new.known.looks self.old.known } }
         ensures unmarked { let place = place_of cache.now.geometry pin.now.number in
             IsRemarked place pin.now.generation false self.old.known self.new.known }
     {
@@ -130,7 +133,7 @@ impl Keeper {
         ensures pin { result ≡ key }
         ensures session { let place = place_of cache.now.geometry key.number in
             session.new ≡ record session.old { known = pinned place key.generation session.old.known } }
-        ensures cache { self.new.cache ≡ self.old.cache }
+        ensures stays { self.new ≡ record self.old { known = with_looks self.new.known.looks self.old.known } }
         ensures installed { let place = place_of cache.now.geometry key.number in
             IsInstalled place key.generation unlinked self.old.known self.new.known }
     {
@@ -152,7 +155,7 @@ impl Keeper {
         requires cache { self.old.cache ≡ cache.now.name }
         requires inside { IsInodeNumber cache.now.geometry number }
         requires keeps { Keeps self.old.known (place_of cache.now.geometry number) }
-        ensures cache { self.new.cache ≡ self.old.cache }
+        ensures stays { self.new ≡ record self.old { known = with_looks self.new.known.looks self.old.known } }
         ensures retired { Retired (place_of cache.now.geometry number) self.old.known result self.new.known }
     {
         let place = cache.place(number);
@@ -164,7 +167,7 @@ impl Keeper {
         requires cache { self.old.cache ≡ cache.now.name }
         requires inside { IsInodeNumber cache.now.geometry key.number }
         requires keeps { Keeps self.old.known (place_of cache.now.geometry key.number) }
-        ensures cache { self.new.cache ≡ self.old.cache }
+        ensures stays { self.new ≡ record self.old { known = with_looks self.new.known.looks self.old.known } }
         ensures killed { Killed (place_of cache.now.geometry key.number) key.generation self.old.known result self.new.known }
         ensures awaited { let last = last_of (place_of cache.now.geometry key.number) self.old.known.looks in
             is_awaiting key.generation (parts_of last) ≡ true → result ≡ true }

@@ -3,7 +3,7 @@ ghost use Rattle.std.specs.Prelude.{◌≡◌, ◌<◌, ◌≤◌, false, true};
 ghost use Rattle.geometry.specs.Places.{anchor_of};
 ghost use Rattle.slot_words.specs.Steps.{is_awaiting};
 ghost use Rattle.word_table.specs.Words.{parts_of};
-ghost use Rattle.word_table.specs.Known.{Keeps, last_of, pinned, times, unpinned};
+ghost use Rattle.word_table.specs.Known.{Keeps, last_of, pinned, times, unpinned, with_looks};
 ghost use Rattle.word_table.specs.Replies.{IsInstalled, IsInstalledHeld, IsTaken, Killed, Retired};
 
 use crate::rule::{WordSeat, Words};
@@ -28,6 +28,8 @@ pub fn take_over(
     ensures seats { (from.new.table_id ≡ from.old.table_id) × (to.new.table_id ≡ to.old.table_id) }
     ensures from { from.new.me ≡ (unpinned place generation from.old.me.0, from.old.me.1) }
     ensures slots { to.new.me.1 ≡ to.old.me.1 }
+    ensures stays { let known = pinned place generation to.old.me.0 in
+        to.new.me.0 ≡ with_looks to.new.me.0.looks known }
     ensures taken { IsTaken place generation to.old.me.0 to.new.me.0 }
 {
     carry(words, from, to, place, generation);
@@ -70,6 +72,7 @@ pub fn install_at(
     requires away { (parts_of (last_of place seat.old.me.0.looks)).live ≡ false }
     ensures seats { (seat.new.table_id ≡ seat.old.table_id) × (to.new.table_id ≡ to.old.table_id) }
     ensures slots { seat.new.me.1 ≡ seat.old.me.1 }
+    ensures stays { seat.new.me.0 ≡ with_looks seat.new.me.0.looks seat.old.me.0 }
     ensures installed { IsInstalled place generation unlinked seat.old.me.0 seat.new.me.0 }
     ensures to { to.new.me ≡ (pinned place generation to.old.me.0, to.old.me.1) }
 {
@@ -85,6 +88,7 @@ pub fn retire_at(words: &Words, seat: &mut WordSeat, place: usize) -> bool
     requires keeps { Keeps seat.old.me.0 place }
     ensures seat { seat.new.table_id ≡ seat.old.table_id }
     ensures slots { seat.new.me.1 ≡ seat.old.me.1 }
+    ensures stays { seat.new.me.0 ≡ with_looks seat.new.me.0.looks seat.old.me.0 }
     ensures retired { Retired place seat.old.me.0 result seat.new.me.0 }
 {
     each_number_is_one_word();
@@ -103,6 +107,7 @@ pub fn kill_at(words: &Words, seat: &mut WordSeat, place: usize, generation: u32
     requires keeps { Keeps seat.old.me.0 place }
     ensures seat { seat.new.table_id ≡ seat.old.table_id }
     ensures slots { seat.new.me.1 ≡ seat.old.me.1 }
+    ensures stays { seat.new.me.0 ≡ with_looks seat.new.me.0.looks seat.old.me.0 }
     ensures killed { Killed place generation seat.old.me.0 result seat.new.me.0 }
     ensures awaited { is_awaiting generation (parts_of (last_of place seat.old.me.0.looks)) ≡ true → result ≡ true }
 {

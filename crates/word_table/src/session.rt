@@ -1,10 +1,10 @@
 // Sessions: opens and closes without a lock.
 ghost use Rattle.std.specs.Prelude.{◌≡◌, ◌≢◌, ◌≤◌, IsOk};
 ghost use Rattle.geometry.specs.Places.{IsInodeNumber, place_of};
-ghost use Rattle.word_table.specs.Known.{looked, times};
+ghost use Rattle.word_table.specs.Known.{looked, times, unpinned, with_looks};
 ghost use Rattle.word_table.specs.Steps.{Holds};
 ghost use Rattle.word_table.specs.Replies.{IsRefusal, Released, Tried};
-ghost use Rattle.word_table.specs.Words.{parts_of};
+ghost use Rattle.word_table.specs.Words.{parts_of, IsRight};
 ghost use Rattle.slot_words.specs.declared.sight.Sight.TheVariants.{Open};
 ghost use Rattle.slot_words.specs.Steps.{sight_of};
 
@@ -65,6 +65,7 @@ impl Session {
         ensures looked { let place = place_of cache.now.geometry number in
             self.new ≡ record self.old { known = looked place result self.old.known } }
         ensures holds { Holds (place_of cache.now.geometry number) self.old.known result }
+        ensures right { IsRight (parts_of result) }
     {
         let place = cache.place(number);
         look(&cache.table.shared, &mut self.seat, place)
@@ -96,7 +97,9 @@ impl Session {
         requires cache { self.old.cache ≡ cache.now.name }
         requires inside { IsInodeNumber cache.now.geometry pin.number }
         requires pin { 1 ≤ times (place_of cache.now.geometry pin.number) pin.generation self.old.known.pins }
-        ensures cache { self.new.cache ≡ self.old.cache }
+        ensures stays { let place = place_of cache.now.geometry pin.number in
+            let known = unpinned place pin.generation self.old.known in
+            self.new ≡ record self.old { known = with_looks self.new.known.looks known } }
         ensures released { Released (place_of cache.now.geometry pin.number) pin self.old.known result self.new.known }
     {
         let Pin { key } = pin;

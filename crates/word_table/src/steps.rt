@@ -6,8 +6,8 @@ ghost use Rattle.geometry.specs.Places.{anchor_of};
 ghost use Rattle.slot_words.specs.Words.{numbered};
 ghost use Rattle.slot_words.specs.Steps.{after_open};
 ghost use Rattle.word_table.specs.Words.{parts_of};
-ghost use Rattle.word_table.specs.Known.{times, pinned, unpinned, Keeps};
-ghost use Rattle.word_table.specs.Steps.{CanChange, CanInstall, WordChanged, Installed, Looked, Pinned, Remarked, Unpinned};
+ghost use Rattle.word_table.specs.Known.{times, pinned, unpinned, with_looks, Keeps};
+ghost use Rattle.word_table.specs.Steps.{CanChange, CanInstall, Closed, WordChanged, Installed, Looked, Pinned, Remarked};
 
 use crate::rule::{
     Carry, Change, Front, Install, LookAt, Mark, PinOne, Unmark, Unpin, WordSeat, Words,
@@ -45,14 +45,16 @@ pub fn pin(
     words.compare_exchange::<PinOne>(seat, place, seen, next)
 }
 
-// Takes one pin off the word.
+// Takes one pin off the word, and answers the word that was found.
 pub fn unpin(words: &Words, seat: &mut WordSeat, place: usize, generation: u32) -> u64
     requires seat { seat.old.table_id ≡ words.now.table_id }
     requires words { words.now.table_id.words ≡ anchor_of words.now.key }
     requires inside { place < anchor_of words.now.key }
     requires pin { 1 ≤ times place generation seat.old.me.0.pins }
     ensures seat { seat.new.table_id ≡ seat.old.table_id }
-    ensures step { Unpinned (step words.now.table_id.slots place 1 0 none) seat.old.me result seat.new.me }
+    ensures stays { let known = unpinned place generation seat.old.me.0 in
+        seat.new.me.0 ≡ with_looks seat.new.me.0.looks known }
+    ensures step { (left : ℕ) × Closed place generation seat.old.me result left seat.new.me }
 {
     each_number_is_one_word();
     words.fetch_sub::<Unpin>(seat, place, 1)
@@ -113,6 +115,7 @@ pub fn set_mark(words: &Words, seat: &mut WordSeat, place: usize, generation: u3
     requires keeps { Keeps seat.old.me.0 place }
     requires pin { 1 ≤ times place generation seat.old.me.0.pins }
     ensures seat { seat.new.table_id ≡ seat.old.table_id }
+    ensures stays { seat.new.me.0 ≡ with_looks seat.new.me.0.looks seat.old.me.0 }
     ensures step { (next : ℕ) × Remarked true place generation seat.old.me result next seat.new.me }
 {
     each_number_is_one_word();
@@ -127,6 +130,7 @@ pub fn clear_mark(words: &Words, seat: &mut WordSeat, place: usize, generation: 
     requires keeps { Keeps seat.old.me.0 place }
     requires pin { 1 ≤ times place generation seat.old.me.0.pins }
     ensures seat { seat.new.table_id ≡ seat.old.table_id }
+    ensures stays { seat.new.me.0 ≡ with_looks seat.new.me.0.looks seat.old.me.0 }
     ensures step { (next : ℕ) × Remarked false place generation seat.old.me result next seat.new.me }
 {
     each_number_is_one_word();

@@ -1,6 +1,6 @@
 use Rattle.std.proofs.Common.{arith}
 use Rattle.word_table.proofs.Parts.{retires, retire_changes}
-use Rattle.word_table.proofs.Calls.{retired_by}
+use Rattle.word_table.proofs.Calls.{retired_by, retired_stays}
 use Rattle.word_table.proofs.moves.retire_at.Goals as goal
 
 pub change-requires-clause-next : goal.change-requires-clause-next
@@ -9,3 +9,6 @@ change-requires-clause-next c =
 
 pub returns-clause-retired : goal.returns-clause-retired
 returns-clause-retired c = retired_by _ _ _ _ _ _ _ _ c.requires.keeps c.look-seen.ensures.step c.in-Some.ensures c.change.ensures.step
+
+pub returns-clause-stays : goal.returns-clause-stays
+returns-clause-stays c = retired_stays c.args.place c.args.seat.now.me.0 _ _ (retired_by _ _ _ _ _ _ _ _ c.requires.keeps c.look-seen.ensures.step c.in-Some.ensures c.change.ensures.step)
