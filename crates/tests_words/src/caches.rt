@@ -136,13 +136,7 @@ fn set_mark(cache: &Cache, keeper: &mut Keeper, pin: &Pin, unlinked: bool)
 }
 
 /// Marks a held inode, or takes its mark away, as a keeper does: with the session's pin.
-pub fn remark(
-    cache: &Cache,
-    keeper: &mut Keeper,
-    session: &mut Session,
-    pin: &Pin,
-    unlinked: bool,
-)
+pub fn remark(cache: &Cache, keeper: &mut Keeper, session: &mut Session, pin: &Pin, unlinked: bool)
     requires keeper { IsKeeper cache.now keeper.old }
     requires session { IsSession cache.now session.old }
     requires number { pin.now.number < 512 }
