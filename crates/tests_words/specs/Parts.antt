@@ -1,5 +1,5 @@
 -- A cache for the tests, and who steps on its words.
-use Rattle.std.specs.Prelude.{◌≡◌, ◌≤◌, ℕ, replicate}
+use Rattle.std.specs.Prelude.{◌≡◌, ◌≤◌, replicate}
 use Rattle.geometry.specs.declared.shape.Geometry.{Geometry}
 use Rattle.geometry.specs.Places.{place_of}
 use Rattle.life_table.specs.declared.key.Key.{Key}
@@ -16,8 +16,8 @@ pub record IsSession (cache : CacheState) (session : SeatState) : Type 0 where
   pub geometry : cache.geometry ≡ one_group
   pub own : session.cache ≡ cache.name
 
--- it keeps all words
-pub record IsKeeper (cache : CacheState) (keeper : SeatState) : Type 0 where
+-- the keeper of all its words
+pub record KeepsWords (cache : CacheState) (keeper : SeatState) : Type 0 where
   pub geometry : cache.geometry ≡ one_group
   pub own : keeper.cache ≡ cache.name
   pub first : keeper.known.first ≡ 0

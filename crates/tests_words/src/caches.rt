@@ -1,6 +1,6 @@
 // A cache for the tests, and the calls on it, which keep who is of which cache.
 ghost use Rattle.std.specs.Prelude.{◌≡◌, ◌<◌, IfOk, IfSome};
-ghost use Rattle.tests_words.specs.Parts.{HasPin, IsKeeper, IsOpened, IsSession, one_group};
+ghost use Rattle.tests_words.specs.Parts.{HasPin, KeepsWords, IsOpened, IsSession, one_group};
 
 use geometry::Geometry;
 use life_ports::NoMemory;
@@ -38,7 +38,7 @@ pub fn new_parts(alloc: Global) -> Result<Parts, NoMemory>
     ensures first { IfOk result (λ p. IsSession p.cache p.first) }
     ensures second { IfOk result (λ p. IsSession p.cache p.second) }
     ensures third { IfOk result (λ p. IsSession p.cache p.third) }
-    ensures keeper { IfOk result (λ p. IsKeeper p.cache p.keeper) }
+    ensures keeper { IfOk result (λ p. KeepsWords p.cache p.keeper) }
 {
     let parts = make_cache(alloc, &geometry(), 3)?;
     let CacheParts {
@@ -90,10 +90,10 @@ pub fn bring_in(
     key: Key,
     unlinked: bool,
 ) -> Option<Pin>
-    requires keeper { IsKeeper cache.now keeper.old }
+    requires keeper { KeepsWords cache.now keeper.old }
     requires session { IsSession cache.now session.old }
     requires number { key.number < 512 }
-    ensures keeper { IsKeeper cache.now keeper.new }
+    ensures keeper { KeepsWords cache.now keeper.new }
     ensures session { IsSession cache.now session.new }
     ensures pin { IfSome result (λ pin. (pin ≡ key) × HasPin session.new key) }
 {
@@ -105,27 +105,27 @@ pub fn bring_in(
 }
 
 pub fn retire(cache: &Cache, keeper: &mut Keeper, number: u64) -> bool
-    requires keeper { IsKeeper cache.now keeper.old }
+    requires keeper { KeepsWords cache.now keeper.old }
     requires number { number < 512 }
-    ensures { IsKeeper cache.now keeper.new }
+    ensures { KeepsWords cache.now keeper.new }
 {
     keeper.retire(cache, number)
 }
 
 pub fn kill(cache: &Cache, keeper: &mut Keeper, key: Key) -> bool
-    requires keeper { IsKeeper cache.now keeper.old }
+    requires keeper { KeepsWords cache.now keeper.old }
     requires number { key.number < 512 }
-    ensures { IsKeeper cache.now keeper.new }
+    ensures { KeepsWords cache.now keeper.new }
 {
     keeper.kill(cache, key)
 }
 
 // Marks an inode of which the keeper has a pin, or takes its mark away.
 fn set_mark(cache: &Cache, keeper: &mut Keeper, pin: &Pin, unlinked: bool)
-    requires keeper { IsKeeper cache.now keeper.old }
+    requires keeper { KeepsWords cache.now keeper.old }
     requires number { pin.now.number < 512 }
     requires pin { HasPin keeper.old pin.now }
-    ensures keeper { IsKeeper cache.now keeper.new }
+    ensures keeper { KeepsWords cache.now keeper.new }
     ensures pin { HasPin keeper.new pin.now }
 {
     if unlinked {
@@ -137,11 +137,11 @@ fn set_mark(cache: &Cache, keeper: &mut Keeper, pin: &Pin, unlinked: bool)
 
 /// Marks a held inode, or takes its mark away, as a keeper does: with the session's pin.
 pub fn remark(cache: &Cache, keeper: &mut Keeper, session: &mut Session, pin: &Pin, unlinked: bool)
-    requires keeper { IsKeeper cache.now keeper.old }
+    requires keeper { KeepsWords cache.now keeper.old }
     requires session { IsSession cache.now session.old }
     requires number { pin.now.number < 512 }
     requires pin { HasPin session.old pin.now }
-    ensures keeper { IsKeeper cache.now keeper.new }
+    ensures keeper { KeepsWords cache.now keeper.new }
     ensures session { IsSession cache.now session.new }
     ensures pin { HasPin session.new pin.now }
 {

@@ -1,6 +1,6 @@
 // Two threads open and close one inode while a keeper changes its word.
 ghost use Rattle.std.specs.Prelude.{◌<◌, ◌≤◌, ◌^◌};
-ghost use Rattle.tests_words.specs.Parts.{IsKeeper, IsSession};
+ghost use Rattle.tests_words.specs.Parts.{KeepsWords, IsSession};
 
 use crate::caches::{NUMBERS, Parts, bring_in, close, kill, look, new_parts, open, remark, retire};
 use life_table::Key;
@@ -39,9 +39,9 @@ fn visit(cache: &Cache, mut session: Session) -> u32
 
 // Changes the word of the inode in a way that it shows to be possible.
 fn change(cache: &Cache, keeper: &mut Keeper, session: &mut Session)
-    requires keeper { IsKeeper cache.now keeper.old }
+    requires keeper { KeepsWords cache.now keeper.old }
     requires session { IsSession cache.now session.old }
-    ensures keeper { IsKeeper cache.now keeper.new }
+    ensures keeper { KeepsWords cache.now keeper.new }
     ensures session { IsSession cache.now session.new }
 {
     let word = read_word(look(cache, session, KEY.number));
@@ -59,7 +59,7 @@ fn change(cache: &Cache, keeper: &mut Keeper, session: &mut Session)
 
 /// Changes the word and retires the inode again and again.
 fn keep(cache: &Cache, mut keeper: Keeper, mut session: Session) -> Session
-    requires keeper { IsKeeper cache.now keeper }
+    requires keeper { KeepsWords cache.now keeper }
     requires session { IsSession cache.now session }
     ensures { IsSession cache.now result }
 {
@@ -78,7 +78,7 @@ fn keep_visited<R: Threads + Sync>(
     session: Session,
     visitor: Session,
 ) -> (Session, u32)
-    requires keeper { IsKeeper cache.now keeper }
+    requires keeper { KeepsWords cache.now keeper }
     requires session { IsSession cache.now session }
     requires visitor { IsSession cache.now visitor }
     ensures session { IsSession cache.now result.0 }
@@ -87,7 +87,7 @@ fn keep_visited<R: Threads + Sync>(
     join(
         rt,
         move || -> Session
-            requires { IsKeeper cache.now keeper × IsSession cache.now session }
+            requires { KeepsWords cache.now keeper × IsSession cache.now session }
             ensures { IsSession cache.entry.now result }
         { keep(cache, keeper, session) },
         move || -> u32
@@ -125,7 +125,7 @@ fn every_word_has_the_pins_that_are_out(rt: HostRuntime) -> Result<(), Fail> {
     let ((session, more), out) = join(
         host,
         move || -> (Session, u32)
-            requires { IsKeeper shared.now keeper × IsSession shared.now first × IsSession shared.now second }
+            requires { KeepsWords shared.now keeper × IsSession shared.now first × IsSession shared.now second }
             ensures { IsSession shared.entry.now result.0 × (result.1 < 2 ^ 16) }
         { keep_visited(host, shared, keeper, first, second) },
         move || -> u32
