@@ -4,7 +4,11 @@
 #![tactic(auto)]
 
 #[cfg(test)]
+mod checks;
+#[cfg(test)]
 mod crashes;
+#[cfg(test)]
+mod images;
 #[cfg(test)]
 mod input;
 #[cfg(test)]

@@ -1,6 +1,7 @@
 // Whole runs over disks in memory.
 
 use disk_model::{Blank, FaultDisk, MemoryDisk, MemoryImages};
+use life_bytes::Sector;
 use life_cli::top;
 use life_ports::{MemorySink, MemorySource};
 use std::alloc::Global;
@@ -47,6 +48,20 @@ fn listed(
         return Err(Fail::from("no disk"));
     }
     Ok(images)
+}
+
+/// Images without a disk.
+pub(crate) fn no_disk(alloc: Global) -> Disks {
+    MemoryImages::new(alloc, Vec::new(alloc))
+}
+
+/// Images with one disk of these sectors, which fails at these calls.
+pub(crate) fn disk_with(
+    alloc: Global,
+    sectors: Vec<Sector>,
+    fails: Vec<u64>,
+) -> Result<Disks, Fail> {
+    listed(alloc, MemoryDisk::with(alloc, sectors)?, 0, fails)
 }
 
 /// Images with one disk of so many zero sectors, which fails at these calls.
