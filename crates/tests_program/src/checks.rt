@@ -85,7 +85,13 @@ fn first_file(rt: HostRuntime) -> Result<(), Fail> {
     // Without links, and in its bucket.
     apply(
         &mut image,
-        &[(192, 19, 0), (2, 40, 0), (2, 41, 0), (2, 42, 0), (2, 43, 192)],
+        &[
+            (192, 19, 0),
+            (2, 40, 0),
+            (2, 41, 0),
+            (2, 42, 0),
+            (2, 43, 192),
+        ],
     );
     let orphan = "sound\ngroups 1 blocks 64 ring 256 chunks 1 inodes 1 orphans 1\n";
     answers(&rt, alloc, &image, 0, orphan, 0)
@@ -143,7 +149,12 @@ fn damages_of_superblock_and_anchor(rt: HostRuntime) -> Result<(), Fail> {
         &[
             (&[], &[(0, 7, 7)], 1, 0),
             (&[], &[(0, 11, 17)], 1, 0),
-            (&[], &[(512, 0, 0), (512, 1, 0), (512, 2, 0), (512, 3, 0)], 3, 512),
+            (
+                &[],
+                &[(512, 0, 0), (512, 1, 0), (512, 2, 0), (512, 3, 0)],
+                3,
+                512,
+            ),
             (&[], &[(512, 14, 0), (512, 15, 255)], 3, 512),
         ],
     )
@@ -227,11 +238,22 @@ fn damages_of_bitmaps_and_unlinked_lists(rt: HostRuntime) -> Result<(), Fail> {
             // An inode without links in the bucket of another number; a number of no chunk.
             (
                 &[],
-                &[(192, 19, 0), (2, 44, 0), (2, 45, 0), (2, 46, 0), (2, 47, 192)],
+                &[
+                    (192, 19, 0),
+                    (2, 44, 0),
+                    (2, 45, 0),
+                    (2, 46, 0),
+                    (2, 47, 192),
+                ],
                 11,
                 2,
             ),
-            (&[], &[(2, 40, 0), (2, 41, 0), (2, 42, 1), (2, 43, 64)], 11, 2),
+            (
+                &[],
+                &[(2, 40, 0), (2, 41, 0), (2, 42, 1), (2, 43, 64)],
+                11,
+                2,
+            ),
             // An inode without links in no bucket; one with a link that points on.
             (&[], &[(192, 19, 0)], 12, 192),
             (
