@@ -8,6 +8,8 @@ mod bitmaps;
 #[cfg(test)]
 mod cores;
 #[cfg(test)]
+mod field_edges;
+#[cfg(test)]
 mod fields;
 #[cfg(test)]
 mod forks;
