@@ -1,6 +1,6 @@
 // Checks of images: what is written of each, the exit status, and that the image is as it was.
 
-use crate::images::{Change, apply, clear, first_file_image, made_image, sectors_of};
+use crate::images::{Change, apply, change, clear, first_file_image, made_image, sectors_of};
 use crate::runs::{disk_with, no_disk, run_words};
 use life_bytes::Sector;
 use life_cli::exit_code;
@@ -103,9 +103,7 @@ fn three_damages(rt: HostRuntime) -> Result<(), Fail> {
     is_damaged(&rt, alloc, &[], 1, 0)?;
     // The generation is another one, and the checksum is wrong.
     let mut image = first_file_image(alloc)?;
-    if let Some(inode) = image.get_mut(192) {
-        inode.bytes[92] ^= 1;
-    }
+    change(&mut image, (192, 92, 1));
     is_damaged(&rt, alloc, &image, 7, 192)?;
     // The inode is its own next one in its bucket.
     are_damaged(

@@ -52,7 +52,8 @@ fn free_inode(number: u8) -> Sector {
     sector
 }
 
-fn change(image: &mut Vec<Sector>, (sector, at, value): Change) {
+/// Changes one byte.
+pub(crate) fn change(image: &mut Vec<Sector>, (sector, at, value): Change) {
     if sector < image.len() && at < 512 {
         image[sector].bytes[at] = value;
     }
@@ -65,14 +66,28 @@ fn seal(image: &mut Vec<Sector>, sector: usize, at: usize) {
     }
 }
 
-/// Sets the checksum of the page right whose first sector is 16, and whose other sectors are zero.
+/// The first sector of a page.
+fn first_of(page: &[u8; 4096]) -> Sector {
+    let mut sector = Sector::zero();
+    sector.bytes.copy_from_slice(&page[..512]);
+    sector
+}
+
+/// The first sector of a page whose other sectors are zero, with the page's checksum right.
+fn sealed_page(first: &Sector) -> Sector {
+    let mut page = [0; 4096];
+    page[..512].copy_from_slice(&first.bytes);
+    put_crc(&mut page, 52);
+    first_of(&page)
+}
+
+/// Sets the checksum right of the page whose first sector is 16.
 fn seal_page(image: &mut Vec<Sector>) {
-    if 16 < image.len() {
-        let mut page = [0; 4096];
-        page[..512].copy_from_slice(&image[16].bytes);
-        put_crc(&mut page, 52);
-        image[16].bytes.copy_from_slice(&page[..512]);
-    }
+    let Some(first) = image.get(16) else {
+        return;
+    };
+    let sealed = sealed_page(first);
+    put(image, 16, sealed);
 }
 
 /// Sets the checksum right of what stands in a sector, where it has one.
