@@ -1,8 +1,8 @@
+use crate::compare::stand_at;
 use life_bytes::{
     Sector, crc_holed, crc32c, field_u16, field_u32, field_u64, numbers_determine_bytes, put_crc,
     put_u16, put_u32, put_u64,
 };
-use std::test::Fail;
 
 #[test]
 fn checksums_of_known_bytes(rt: HostRuntime) {
@@ -24,21 +24,33 @@ fn a_hole_counts_as_zero(rt: HostRuntime) {
     assert_eq!(rt; &bytes[8..14], [0, 0xaa, 0x36, 0x91, 0x8a, 0].as_slice());
 }
 
-#[test]
-fn a_field_is_big_endian(rt: HostRuntime) -> Result<(), Fail> {
+/// A sector with a field of each width.
+fn fields() -> Sector {
     let mut sector = Sector::zero();
     put_u16(&mut sector.bytes, 0, 0x494e);
     put_u32(&mut sector.bytes, 16, 0x0102_0304);
     put_u64(&mut sector.bytes, 152, 192);
-    assert_eq!(rt; &sector.bytes[..2], [0x49, 0x4e].as_slice());
-    assert_eq!(rt; &sector.bytes[16..20], [1, 2, 3, 4].as_slice());
-    assert_eq!(rt;
-        &sector.bytes[152..160],
-        [0, 0, 0, 0, 0, 0, 0, 192].as_slice()
+    sector
+}
+
+#[test]
+fn a_field_is_big_endian(rt: HostRuntime) {
+    stand_at(
+        &rt,
+        &fields().bytes,
+        &[
+            (0, b"\x49\x4e"),
+            (16, b"\x01\x02\x03\x04"),
+            (152, b"\0\0\0\0\0\0\0\xc0"),
+        ],
     );
+}
+
+#[test]
+fn a_field_is_read(rt: HostRuntime) {
+    let sector = fields();
     assert_eq!(rt; field_u16(&sector.bytes, 0), 0x494e);
     assert_eq!(rt; field_u32(&sector.bytes, 16), 0x0102_0304);
     assert_eq!(rt; field_u64(&sector.bytes, 152), 192);
     numbers_determine_bytes();
-    Ok(())
 }

@@ -1,5 +1,7 @@
+use crate::compare::{fill, stand_at};
 use ag_header::{AGI_CRC_AT, Agi, read_agi, set_counts, set_head, set_root, write_agi};
 use life_bytes::Sector;
+use std::process::Abort;
 
 const EMPTY: u32 = 0xffff_ffff;
 
@@ -15,31 +17,48 @@ const FIRST: Agi = Agi {
     uuid: [0, 1, 2, 3, 4, 5, 6, 7, 8, 9, 10, 11, 12, 13, 14, 15],
 };
 
-#[test]
-fn header_is_written_and_read(rt: HostRuntime) {
+/// The header, written over other bytes.
+fn written() -> Sector {
     let mut sector = Sector { bytes: [0xee; 512] };
     write_agi(&FIRST, &mut sector);
-    assert_eq!(rt;
-        &sector.bytes[..20],
-        b"XAGI\0\0\0\x01\0\0\0\0\0\0\0\x40\0\0\0\x40".as_slice()
+    sector
+}
+
+#[test]
+fn header_is_written(rt: HostRuntime) {
+    let sector = written();
+    stand_at(
+        &rt,
+        &sector.bytes,
+        &[
+            (0, b"XAGI\0\0\0\x01\0\0\0\0\0\0\0\x40\0\0\0\x40"),
+            (20, b"\0\0\0\x02\0\0\0\x01\0\0\0\x3f"),
+            (296, &FIRST.uuid),
+            (AGI_CRC_AT, b"\x69\xf4\x24\x78"),
+        ],
     );
-    assert_eq!(rt;
-        &sector.bytes[20..32],
-        b"\0\0\0\x02\0\0\0\x01\0\0\0\x3f".as_slice()
+    fill(
+        &rt,
+        &sector.bytes,
+        &[(32, 296, 0xff), (AGI_CRC_AT + 4, 512, 0)],
     );
-    assert_eq!(rt; &sector.bytes[32..296], [0xff; 264].as_slice());
-    assert_eq!(rt; &sector.bytes[296..312], FIRST.uuid.as_slice());
-    assert_eq!(rt;
-        &sector.bytes[AGI_CRC_AT..AGI_CRC_AT + 4],
-        b"\x69\xf4\x24\x78".as_slice()
-    );
-    assert_eq!(rt; &sector.bytes[AGI_CRC_AT + 4..], [0; 196].as_slice());
-    assert_eq!(rt; read_agi(&sector), Some(FIRST));
-    for at in [3, 7, 23, 27, 35, 100, 300, 315, 320, 511] {
-        let mut other = sector;
-        other.bytes[at] ^= 1;
+}
+
+/// The header with another bit at one of these places is not read.
+fn are_refused(rt: &impl Abort, sector: &Sector, places: &[usize]) {
+    for at in places {
+        assert!(rt; *at < 512);
+        let mut other = *sector;
+        other.bytes[*at] ^= 1;
         assert_eq!(rt; read_agi(&other), None, "byte {at}");
     }
+}
+
+#[test]
+fn header_is_read_and_nothing_else(rt: HostRuntime) {
+    let sector = written();
+    assert_eq!(rt; read_agi(&sector), Some(FIRST));
+    are_refused(&rt, &sector, &[3, 7, 23, 27, 35, 100, 300, 315, 320, 511]);
 }
 
 #[test]

@@ -6,6 +6,8 @@
 #[cfg(test)]
 mod bitmaps;
 #[cfg(test)]
+mod compare;
+#[cfg(test)]
 mod cores;
 #[cfg(test)]
 mod field_edges;

@@ -73,13 +73,23 @@ fn takes_images(alloc: Global, images: u8, sectors: u8) -> Result<bool, Fail> {
 }
 
 #[test]
-fn each_list_has_its_edge(rt: HostRuntime) -> Result<(), Fail> {
+fn an_inode_takes_so_many_runs(rt: HostRuntime) -> Result<(), Fail> {
     for (runs, taken) in [(0, true), (21, true), (22, false)] {
         assert_eq!(rt; takes_runs(rt.alloc(), runs)?, taken, "{runs} runs");
     }
+    Ok(())
+}
+
+#[test]
+fn a_leaf_takes_so_many_chunks(rt: HostRuntime) -> Result<(), Fail> {
     for (chunks, taken) in [(252, true), (253, false)] {
         assert_eq!(rt; takes_chunks(rt.alloc(), chunks)?, taken, "{chunks} chunks");
     }
+    Ok(())
+}
+
+#[test]
+fn a_record_takes_so_many_images(rt: HostRuntime) -> Result<(), Fail> {
     for (images, sectors, taken) in [(0, 1, true), (128, 135, true), (129, 136, false)] {
         assert_eq!(rt;
             takes_images(rt.alloc(), images, sectors)?,
