@@ -1,5 +1,5 @@
 -- What a shortage, a gc and an unmount free.
-use Rattle.std.proofs.Common.{◌≡◌, ◌≢◌, ◌<◌, ◌≤◌, ◌+◌, ◌*◌, ◌++◌, inl, inr, ℕ, Bool, zero, suc, true, false, List, [], ◌∷◌, Option, None, Some, IsSome, IsSomeAnd, length, slice_get, refl, sym, ap, subst, ◌∙◌, arith}
+use Rattle.std.proofs.Common.{◌≡◌, ◌<◌, ◌≤◌, ◌+◌, ◌*◌, ◌++◌, inl, inr, ℕ, Bool, zero, suc, true, false, List, [], ◌∷◌, Option, None, Some, IsSome, IsSomeAnd, length, slice_get, refl, sym, ap, subst, ◌∙◌, arith}
 use Rattle.std.specs.Prelude.{◌↔◌}
 use Rattle.std.specs.List.{AllByRecursion, Contains, flat_map, range_with_len}
 use Rattle.std.proofs.lemmas.List.Elements.{Contains-append_left, Contains-append_right}
