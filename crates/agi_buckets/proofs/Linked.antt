@@ -176,6 +176,15 @@ taken_out p q agino lists are present heads places before others =
     let not_there : bucket_of x ≡ b → ⊥ = λ e. other (sym (bucket_in p lists bucket x are below member) ∙ e) in
     others x (placed_in p lists bucket x are below member) (λ same. not_there (ap bucket_of same)) (λ is. not_there (bucket_in p lists b x are small is.listed)))
 
+-- the member that a walk found to lead to an inode
+pub found_before : (p : Pointers) (agino found : ℕ) (lists : List (List ℕ)) → AreBuckets p lists → PointsAtMember p (slice_index p.heads (bucket_of agino)) agino found → IsBefore p lists agino found
+found_before p agino found lists are is_found =
+    let old = are.each (bucket_of agino) (bucket_small agino) in
+    record {
+      listed = is_found.listed (own_list lists agino) (record { chain = old.chain; placed = old.placed; no_mark = are.no_mark });
+      points = is_found.points;
+    }
+
 -- the pointer that led to an inode was set to what comes behind it: the head, or the next pointer of the member before it
 pub passes_by_head : (p q : Pointers) (agino : ℕ) (lists : List (List ℕ)) → AreBuckets p lists → slice_index p.heads (bucket_of agino) ≡ agino
     → SetsHead p q (bucket_of agino) (p.next agino) → PassesOver p q agino lists
@@ -194,7 +203,7 @@ passes_by_next p q agino found lists are first is_found set =
     let b : ℕ = bucket_of agino in
     let small = bucket_small agino in
     let old = are.each b small in
-    let listed = is_found.listed (own_list lists agino) (record { chain = old.chain; placed = old.placed; no_mark = are.no_mark }) in
+    let listed = (found_before p agino found lists are is_found).listed in
     record {
       heads = set.heads ∙ sym (ap (λ (t : Bool). cond t (slice_set p.heads b (p.next agino)) p.heads) (ne_eqb (slice_index p.heads b) agino first));
       before = λ other is.

@@ -1,5 +1,5 @@
 -- The unlinked buckets of a group: 64 lists of inodes, each linked through its members.
-use Rattle.std.specs.Prelude.{◌≡◌, ◌≢◌, ◌==◌, ◌⊎◌, ◌%◌, ◌<◌, ℕ, List, [], ◌∷◌, Contains, if◌then◌else◌, not, length, filter, slice_index, slice_index_or, slice_set}
+use Rattle.std.specs.Prelude.{◌≡◌, ◌≢◌, ◌==◌, ◌⊎◌, ◌%◌, ◌<◌, ℕ, List, [], ◌∷◌, Option, None, Some, Contains, if◌then◌else◌, not, length, filter, slice_index, slice_index_or, slice_set}
 use Rattle.std.specs.List.{AllByRecursion}
 use Rattle.life_limits.specs.declared.TheConstants.{BUCKETS, NO_INODE}
 
@@ -85,6 +85,11 @@ take_out lists agino = slice_set lists (bucket_of agino) (without (own_list list
 pub record IsBefore (p : Pointers) (lists : List (List ℕ)) (agino other : ℕ) : Type 0 where
   pub listed : Contains (own_list lists agino) other
   pub points : p.next other ≡ agino
+
+-- what leads to an inode: the inode before it, or the head of its bucket
+abbrev pub IsLedToBy : Pointers → List (List ℕ) → ℕ → Option ℕ → Type 0
+IsLedToBy p lists agino None = slice_index p.heads (bucket_of agino) ≡ agino
+IsLedToBy p lists agino (Some other) = IsBefore p lists agino other
 
 -- An inode was taken out of its bucket: its next pointer is the end mark, and beside it only the pointer that led to it has changed, which leads to what
 -- came behind it.

@@ -1,7 +1,7 @@
 // The lists of the buckets.
 
 ghost use Rattle.std.specs.Prelude.{◌≡◌, ◌≢◌, ◌≤◌, ◌<◌, ◌+◌, ℕ, List, Contains, IfOk};
-ghost use Rattle.agi_buckets.specs.Buckets.{AreBuckets, HaveBuckets, Puts, Removes, list_at, own_list};
+ghost use Rattle.agi_buckets.specs.Buckets.{AreBuckets, HaveBuckets, IsLedToBy, Puts, Removes, list_at, own_list};
 ghost use Rattle.agi_buckets.specs.Walks.{PointsAtMember, LeadsTo, PassesOver};
 ghost use Rattle.life_limits.specs.declared.TheConstants.{BUCKETS};
 
@@ -41,12 +41,13 @@ fn find_before<N: Nexts>(n: &N, first: u32, agino: u32) -> u32
     }
 }
 
-/// Lets the pointer that leads to an inode lead to the one behind it.
-fn pass_over<N: Nexts>(n: &mut N, agino: u32)
+/// Lets the pointer that leads to an inode lead to the one behind it. It gives the inode before it, and none where it is the head.
+fn pass_over<N: Nexts>(n: &mut N, agino: u32) -> Option<u32>
     requires present { HaveBuckets (N.pointers n.old) (λ lists. Contains (own_list lists agino) agino) }
     requires room { 1 ≤ N.room n.old }
     ensures passed { (lists : List (List ℕ)) → AreBuckets (N.pointers n.old) lists
         → PassesOver (N.pointers n.old) (N.pointers n.new) agino lists }
+    ensures before { (lists : List (List ℕ)) → AreBuckets (N.pointers n.old) lists → IsLedToBy (N.pointers n.old) lists agino result }
     ensures room { N.room n.old ≤ N.room n.new + 1 }
 {
     let bucket = agino % BUCKETS;
@@ -54,22 +55,26 @@ fn pass_over<N: Nexts>(n: &mut N, agino: u32)
     let behind = n.next(agino);
     if first == agino {
         n.set_head(bucket, behind);
+        None
     } else {
         let before = find_before(n, first, agino);
         n.set_next(before, behind);
+        Some(before)
     }
 }
 
-/// Takes an inode out of its bucket. It walks the bucket up to the inode.
-pub fn remove<N: Nexts>(n: &mut N, agino: u32)
+/// Takes an inode out of its bucket. It walks the bucket up to the inode, and gives the one before it, and none where it is the head.
+pub fn remove<N: Nexts>(n: &mut N, agino: u32) -> Option<u32>
     requires present { HaveBuckets (N.pointers n.old) (λ lists. Contains (own_list lists agino) agino) }
     requires room { 2 ≤ N.room n.old }
     ensures removed { (lists : List (List ℕ)) → AreBuckets (N.pointers n.old) lists
         → Removes (N.pointers n.old) (N.pointers n.new) agino lists }
+    ensures before { (lists : List (List ℕ)) → AreBuckets (N.pointers n.old) lists → IsLedToBy (N.pointers n.old) lists agino result }
     ensures room { N.room n.old ≤ N.room n.new + 2 }
 {
-    pass_over(n, agino);
+    let before = pass_over(n, agino);
     n.set_next(agino, NO_INODE);
+    before
 }
 
 /// The members of a bucket, its head first.

@@ -59,7 +59,7 @@ fn an_inode_is_put_first_and_taken_out_of_the_middle(rt: HostRuntime) -> Result<
         list(rt.alloc(), &memory, 0)?.as_slice(),
         [256, 320, 192].as_slice()
     );
-    remove(&mut memory, 320);
+    assert_eq!(rt; remove(&mut memory, 320), Some(256));
     assert_eq!(rt;
         list(rt.alloc(), &memory, 0)?.as_slice(),
         [256, 192].as_slice()
