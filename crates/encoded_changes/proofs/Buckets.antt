@@ -44,7 +44,7 @@ unfolding head_of
 head-without [] agino apart = refl
 head-without (member ∷ members) agino apart = ap head_of (without-later member members agino apart)
 
-next-without : (members : List ℕ) (agino place : ℕ) → place ≢ agino → next_in members place ≢ agino → next_in (without members agino) place ≡ next_in members place
+pub next-without : (members : List ℕ) (agino place : ℕ) → place ≢ agino → next_in members place ≢ agino → next_in (without members agino) place ≡ next_in members place
 next-without [] agino place other differs = refl
 next-without (member ∷ members) agino place other differs =
     elim (cases_eq member agino) [

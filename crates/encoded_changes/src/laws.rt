@@ -21,6 +21,7 @@ ghost use Rattle.sound_image.specs.Encoding.{Layouts, AreLayouts, CanEncode, hea
 ghost use Rattle.sound_image.specs.Rules.{free_set};
 ghost use Rattle.ag_header.specs.Headers.{header_encoding};
 ghost use Rattle.free_map.specs.Bitmap.{bitmap};
+ghost use Rattle.agi_buckets.specs.Buckets.{without};
 ghost use Rattle.encoded_changes.specs.Carry.{AreImagesOf, ChangesOnly, Stays, Carry, CarryGroup, image_for};
 ghost use Rattle.encoded_changes.specs.Changes.{FollowInode, HaveSameBlocks, IsOfBitmap, IsChunkPlace, IsOfNoNewChunk, IsOfPage, PutsFirst, Relists, TakesOut, put_in, taken_from, unused_inode};
 
@@ -59,7 +60,8 @@ pub fn chunks_touch_themselves()
 {}
 
 /// A law: an inode that is put first in its bucket touches the header and its own sector; one that is taken out touches its own sector and what pointed at it,
-/// which is the header where it was the head, and else the sector of the one inode before it.
+/// which is the header where it was the head, and else the sector of the one inode before it. No inode is before itself; and what follows another one stays
+/// where an inode is taken out, unless it was that one.
 pub fn buckets_touch_pointers()
     ensures put { (g : Geometry) (layouts others : Layouts) (group : ℕ) (chunks : Group) (agino place : ℕ) → PutsFirst layouts others group agino
         → place ≢ agino → place ≢ header_place → Stays g group layouts chunks others chunks place }
@@ -70,6 +72,9 @@ pub fn buckets_touch_pointers()
         → next_in members first ≡ agino → next_in members second ≡ agino → first ≡ second }
     ensures none_before { (members : List ℕ) (agino other : ℕ) → times agino members ≤ 1 → agino ≢ NO_INODE
         → head_of members ≡ agino → next_in members other ≢ agino }
+    ensures not_itself { (members : List ℕ) (agino : ℕ) → times agino members ≤ 1 → agino ≢ NO_INODE → next_in members agino ≢ agino }
+    ensures others_stay { (members : List ℕ) (agino other : ℕ) → other ≢ agino → next_in members other ≢ agino
+        → next_in (without members agino) other ≡ next_in members other }
 {}
 
 /// A law: an inode that comes to be without links, and is put into its bucket, touches the header and its sector; one that is no more without links, or no
