@@ -2,6 +2,33 @@ use life_bytes::Sector;
 use log_image::{Anchor, read_anchor, write_anchor};
 use std::test::Fail;
 
+/// The sector of an anchor, in which other bytes stood.
+fn anchor_sector(anchor: &Anchor) -> Sector {
+    let mut sector = Sector { bytes: [0xaa; 512] };
+    write_anchor(anchor, &mut sector);
+    sector
+}
+
+/// Whether a sector begins with these bytes, and has zero bytes behind them.
+fn begins_with(sector: &Sector, front: &[u8; 24]) -> bool {
+    let (first, rest) = sector.bytes.split_at(24);
+    first == front.as_slice() && rest.iter().all(|b| *b == 0)
+}
+
+/// The first of these places at which a changed bit leaves an anchor.
+fn first_passed_over(sector: &Sector, places: &[usize]) -> Option<usize> {
+    for at in places {
+        let mut other = *sector;
+        if let Some(byte) = other.bytes.get_mut(*at) {
+            *byte ^= 1;
+        }
+        if read_anchor(&other).is_some() {
+            return Some(*at);
+        }
+    }
+    None
+}
+
 #[test]
 fn anchors_are_encoded_and_read(rt: HostRuntime) -> Result<(), Fail> {
     // The position, the next commit number, and the first bytes with the checksum.
@@ -27,18 +54,11 @@ fn anchors_are_encoded_and_read(rt: HostRuntime) -> Result<(), Fail> {
             position,
             next_commit,
         };
-        let mut sector = Sector { bytes: [0xaa; 512] };
-        write_anchor(&anchor, &mut sector);
-        let (front, rest) = sector.bytes.split_at(24);
-        assert_eq!(rt; front, bytes.as_slice());
-        assert!(rt; rest.iter().all(|b| *b == 0));
+        let sector = anchor_sector(&anchor);
+        assert!(rt; begins_with(&sector, &bytes), "position {position}");
         assert_eq!(rt; read_anchor(&sector), Some(anchor));
-        for at in [0, 4, 8, 23, 24, 511] {
-            let mut other = sector;
-            let byte = other.bytes.get_mut(at).ok_or("no byte")?;
-            *byte ^= 1;
-            assert_eq!(rt; read_anchor(&other), None, "byte {at}");
-        }
+        let passed_over = first_passed_over(&sector, &[0, 4, 8, 23, 24, 511]);
+        assert_eq!(rt; passed_over, None, "position {position}");
     }
     Ok(())
 }

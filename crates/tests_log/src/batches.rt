@@ -45,17 +45,23 @@ fn a_batch_has_the_newest_images(rt: HostRuntime) -> Result<(), Fail> {
     Ok(())
 }
 
+/// The first three images, each of which but the last is taken out.
+fn first_three(dirty: &mut DirtySectors) -> [Option<Image>; 3] {
+    let first = dirty.first();
+    dirty.remove_first();
+    let second = dirty.first();
+    dirty.remove_first();
+    [first, second, dirty.first()]
+}
+
 #[test]
 fn dirty_sectors_come_by_home(rt: HostRuntime) -> Result<(), Fail> {
     let mut dirty = DirtySectors::new(rt.alloc());
     dirty.reserve(3)?;
     dirty.put_all(&[image(9, 1), image(4, 2), image(9, 3)]);
-    assert!(rt; !dirty.is_empty());
-    assert_eq!(rt; dirty.first(), Some(image(4, 2)));
-    dirty.remove_first();
-    assert_eq!(rt; dirty.first(), Some(image(9, 3)));
-    dirty.remove_first();
-    assert!(rt; dirty.is_empty());
-    assert_eq!(rt; dirty.first(), None);
+    let was_empty = dirty.is_empty();
+    let images = first_three(&mut dirty);
+    assert_eq!(rt; images, [Some(image(4, 2)), Some(image(9, 3)), None]);
+    assert!(rt; !was_empty && dirty.is_empty());
     Ok(())
 }

@@ -38,11 +38,14 @@ fn write_flush_read<D: Disk>(disk: &mut D) -> ([Result<(), Failed>; 3], u8, u64)
 #[test]
 fn what_was_written_is_read(rt: HostRuntime) -> Result<(), Fail> {
     let mut disk: MemoryDisk = blank_disk(rt.alloc())?;
-    assert_eq!(rt; disk.sectors(), 4);
-    assert_eq!(rt; write_flush_read(&mut disk), ([Ok(()); 3], 6, 0));
-    assert_eq!(rt; disk.sectors(), 4);
-    assert_eq!(rt; disk.sector(0), Sector::zero());
-    assert_eq!(rt; disk.sector(1), marked(5));
+    let before = disk.sectors();
+    let seen = write_flush_read(&mut disk);
+    assert_eq!(rt; seen, ([Ok(()); 3], 6, 0));
+    assert_eq!(rt; (before, disk.sectors()), (4, 4));
+    assert_eq!(rt;
+        [disk.sector(0), disk.sector(1)],
+        [Sector::zero(), marked(5)]
+    );
     Ok(())
 }
 
@@ -136,9 +139,26 @@ fn write_until<D: Stops>(
     (answers, disk.stopped(), disk.faults())
 }
 
+// What became of a disk of four sectors that was stopped: the answers and the count of faults, then the marks that are
+// left and that count after a restart, and whether it went on, over a disk that never failed.
+type Stopped = (([Result<(), Failed>; 4], bool, u64), [u8; 2], u64, bool);
+
+fn stopped_at(alloc: Global, writes: u64, sectors: u64) -> Result<Stopped, NoMemory>
+    requires { 1 ≤ writes }
+{
+    let inner: MemoryDisk = blank_disk(alloc)?;
+    let mut disk = StopDisk::new(inner);
+    let four = disk.sectors() == 4;
+    let seen = write_until(&mut disk, writes, sectors);
+    disk.restart();
+    let goes_on = four && !disk.stopped();
+    let left = marks(&mut disk);
+    let faults = disk.faults();
+    Ok((seen, left, faults, goes_on && disk.inner().faults() == 0))
+}
+
 #[test]
 fn a_disk_stops_within_a_write(rt: HostRuntime) -> Result<(), Fail> {
-    let alloc = rt.alloc();
     let goes_on = Ok(());
     let fails = Err(Failed);
     for (writes, sectors, answers, faults, left) in [
@@ -150,26 +170,29 @@ fn a_disk_stops_within_a_write(rt: HostRuntime) -> Result<(), Fail> {
         (2, 2, [goes_on, goes_on, fails, fails], 2, [7, 8]),
         (3, 0, [goes_on; 4], 0, [7, 8]),
     ] {
-        let inner: MemoryDisk = blank_disk(alloc)?;
-        let mut disk = StopDisk::new(inner);
-        assert_eq!(rt; disk.sectors(), 4);
-        assert_eq!(rt;
-            write_until(&mut disk, writes, sectors),
-            (answers, faults > 0, faults),
-            "at {writes} {sectors}"
-        );
-        disk.restart();
-        assert!(rt; !disk.stopped());
-        assert_eq!(rt; marks(&mut disk), left, "at {writes} {sectors}");
-        assert_eq!(rt; disk.faults(), faults);
-        assert_eq!(rt; disk.inner().faults(), 0);
+        let seen = stopped_at(rt.alloc(), writes, sectors)?;
+        let wanted = ((answers, faults > 0, faults), left, faults, true);
+        assert_eq!(rt; seen, wanted, "at {writes} {sectors}");
     }
     Ok(())
 }
 
+// What a stop with this choice leaves of two sectors, of which the second was written twice since the flush.
+fn left_by(alloc: Global, choice: u64) -> Result<[Sector; 2], Fail> {
+    let mut disk = MemoryDisk::with(alloc, vec![in alloc; marked(0), marked(0)]?)?;
+    disk.write(0, &[marked(1), marked(2)])?;
+    disk.flush()?;
+    disk.write(0, &[marked(11), marked(12)])?;
+    disk.write(1, &[marked(22)])?;
+    disk.pick(choice);
+    if disk.faults() > 0 {
+        return Err("a fault".into());
+    }
+    Ok([disk.sector(0), disk.sector(1)])
+}
+
 #[test]
 fn a_stop_leaves_each_choice(rt: HostRuntime) -> Result<(), Fail> {
-    let alloc = rt.alloc();
     for (choice, left) in [
         (0, [1, 2]),
         (1, [11, 2]),
@@ -180,15 +203,9 @@ fn a_stop_leaves_each_choice(rt: HostRuntime) -> Result<(), Fail> {
         (6, [1, 2]),
         (u64::MAX, [11, 12]),
     ] {
-        let mut disk = MemoryDisk::with(alloc, vec![in alloc; marked(0), marked(0)]?)?;
-        disk.write(0, &[marked(1), marked(2)])?;
-        disk.flush()?;
-        disk.write(0, &[marked(11), marked(12)])?;
-        disk.write(1, &[marked(22)])?;
-        disk.pick(choice);
-        assert_eq!(rt; disk.sector(0), marked(left[0]), "choice {choice}");
-        assert_eq!(rt; disk.sector(1), marked(left[1]), "choice {choice}");
-        assert_eq!(rt; disk.faults(), 0);
+        let seen = left_by(rt.alloc(), choice)?;
+        let wanted = [marked(left[0]), marked(left[1])];
+        assert_eq!(rt; seen, wanted, "choice {choice}");
     }
     Ok(())
 }
