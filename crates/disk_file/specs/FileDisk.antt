@@ -3,7 +3,7 @@ use Rattle.std.specs.Prelude.{⊤, Bool, false, IsTrue, List, map, string_bytes}
 use Rattle.std.specs.Bool.{MatchBool}
 use Rattle.std.proofs.Common.{subst}
 use Rattle.disk_model.specs.Images.{Given}
-use Rattle.disk_file.specs.declared.file_disk.GivenFile.{GivenFile}
+use Rattle.disk_file.specs.declared.file_images.GivenFile.{GivenFile}
 
 -- the disk that a file is, as it was given
 abbrev pub given_of : GivenFile → Given
