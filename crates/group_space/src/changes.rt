@@ -1,6 +1,6 @@
 // Changes of a space, each computed beside it.
 
-ghost use Rattle.std.specs.Prelude.{◌≡◌, ◌+◌, ◌*◌, ◌%◌, ◌<◌, ◌++◌, ℕ, [], IfOk, None, Some, find, is_none, is_some, length, true};
+ghost use Rattle.std.specs.Prelude.{◌≡◌, ◌+◌, ◌*◌, ◌%◌, ◌<◌, ◌++◌, ℕ, [], IfOk, None, Some, find, is_none, is_some, length, nat_eq, true};
 ghost use Rattle.life_limits.specs.declared.TheConstants.{BLOCK_SECTORS, MAX_BLOCKS, MAX_LEAF_RECORDS};
 ghost use Rattle.std.specs.List.{range_with_len};
 ghost use Rattle.inobt_leaf.specs.Chunks.{IsLeaf, chunk_holds, with_whole_chunk};
@@ -62,9 +62,10 @@ impl GroupSpace {
     /// A row without blocks takes a number that no row has. It copies the records.
     pub fn with_number_taken(&self, alloc: Global, agino: u32) -> Result<SpaceChange, NoMemory>
         requires { HasUnused self.now agino }
-        ensures { (blocks : ℕ) (chunks : Group) (old new : Inode) → IsSpaceOf blocks chunks self.now
+        ensures space { (blocks : ℕ) (chunks : Group) (old new : Inode) → IsSpaceOf blocks chunks self.now
             → inode_in chunks agino ≡ Some old → is_some new.row ≡ true → row_blocks new.row ≡ []
             → IfOk result (λ change. IsSpaceOf blocks (set_inode chunks agino new) (changed_space self.now change)) }
+        ensures anew { IfOk result (λ change. (is_some change.records ≡ true) × (change.free ≡ None)) }
     {
         hold_order(&self.leaf);
         let mut leaf = self.leaf.copied(alloc)?;
@@ -78,10 +79,11 @@ impl GroupSpace {
     /// A chunk is added at a block, and a row without blocks takes its first number. It copies the records and the map.
     pub fn with_chunk_added(&self, alloc: Global, block: u32) -> Result<SpaceChange, NoMemory>
         requires { HasPlace self.now block }
-        ensures { (blocks : ℕ) (chunks : Group) (new : Inode) → IsSpaceOf blocks chunks self.now
+        ensures space { (blocks : ℕ) (chunks : Group) (new : Inode) → IsSpaceOf blocks chunks self.now
             → is_some new.row ≡ true → row_blocks new.row ≡ [] → IfOk result (λ change.
             IsSpaceOf blocks (set_inode (insert_chunk (new_chunk block) chunks) (BLOCK_SECTORS * block) new)
             (changed_space self.now change)) }
+        ensures anew { IfOk result (λ change. (is_some change.records ≡ true) × (is_some change.free ≡ true)) }
     {
         chunks_have_the_lowest_place();
         let start = BLOCK_SECTORS * block;
@@ -103,9 +105,10 @@ impl GroupSpace {
         blocks: &[u32],
     ) -> Result<SpaceChange, NoMemory>
         requires { HasInUse self.now agino blocks.now }
-        ensures { (size : ℕ) (chunks : Group) (old new : Inode) → IsSpaceOf size chunks self.now → IsGroup size chunks
+        ensures space { (size : ℕ) (chunks : Group) (old new : Inode) → IsSpaceOf size chunks self.now → IsGroup size chunks
             → inode_in chunks agino ≡ Some old → row_blocks old.row ≡ blocks.now → new.row ≡ None
             → IfOk result (λ change. IsSpaceOf size (set_inode chunks agino new) (changed_space self.now change)) }
+        ensures anew { IfOk result (λ change. (is_some change.records ≡ true) × (is_none change.free ≡ nat_eq (length blocks.now) 0)) }
     {
         hold_order(&self.leaf);
         let mut leaf = self.leaf.copied(alloc)?;
@@ -119,10 +122,11 @@ impl GroupSpace {
     /// A row takes these free blocks behind its own. It copies the map.
     pub fn with_blocks_taken(&self, blocks: &[u32]) -> SpaceChange
         requires { HasFree self.now blocks.now }
-        ensures { (size : ℕ) (chunks : Group) (agino : ℕ) (old new : Inode) → IsSpaceOf size chunks self.now
+        ensures space { (size : ℕ) (chunks : Group) (agino : ℕ) (old new : Inode) → IsSpaceOf size chunks self.now
             → inode_in chunks agino ≡ Some old → is_none new.row ≡ is_none old.row
             → row_blocks new.row ≡ row_blocks old.row ++ blocks.now
             → IsSpaceOf size (set_inode chunks agino new) (changed_space self.now result) }
+        ensures anew { (result.records ≡ None) × (is_some result.free ≡ true) }
     {
         SpaceChange {
             leaf: None,
@@ -133,10 +137,11 @@ impl GroupSpace {
     /// A row gives its last blocks up, which are these. It copies the map.
     pub fn with_blocks_given(&self, blocks: &[u32]) -> SpaceChange
         requires { HasLast self.now blocks.now }
-        ensures { (size : ℕ) (chunks : Group) (agino : ℕ) (old new : Inode) → IsSpaceOf size chunks self.now
+        ensures space { (size : ℕ) (chunks : Group) (agino : ℕ) (old new : Inode) → IsSpaceOf size chunks self.now
             → IsGroup size chunks → inode_in chunks agino ≡ Some old → is_none new.row ≡ is_none old.row
             → row_blocks old.row ≡ row_blocks new.row ++ blocks.now
             → IsSpaceOf size (set_inode chunks agino new) (changed_space self.now result) }
+        ensures anew { (result.records ≡ None) × (is_some result.free ≡ true) }
     {
         SpaceChange {
             leaf: None,

@@ -1,6 +1,6 @@
 // The space of a group, and what a change makes anew of it.
 
-ghost use Rattle.std.specs.Prelude.{◌≡◌, ◌≤◌, ℕ, IfOk, IfSome, IsSomeAnd, is_some, length, take};
+ghost use Rattle.std.specs.Prelude.{◌≡◌, ◌≤◌, ℕ, None, IfOk, IfSome, IsSomeAnd, is_some, length, take};
 ghost use Rattle.life_table.specs.Table.{Group};
 ghost use Rattle.life_table.specs.Space.{chunk_place, free_blocks};
 ghost use Rattle.group_space.specs.Space.{IsSpaceOf, IsUnused, changed_space};
@@ -46,6 +46,16 @@ impl Model for SpaceChange {
 }
 
 impl SpaceChange {
+    /// The change that makes nothing anew.
+    pub fn none() -> SpaceChange
+        ensures { result ≡ record { records = None; free = None } }
+    {
+        SpaceChange {
+            leaf: None,
+            free: None,
+        }
+    }
+
     /// Whether the records are others, and so their page.
     pub fn has_records(&self) -> bool
         ensures { result ≡ is_some self.now.records }

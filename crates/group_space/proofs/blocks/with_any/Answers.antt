@@ -8,7 +8,7 @@ empty : (xs : List ℕ) → length xs ≡ 0 → xs ≡ []
 empty [] none = refl
 empty (x ∷ xs) none = absurd (omega arith)
 
-pub returns-then-is_empty : goal.returns-then-is_empty
-returns-then-is_empty c =
+pub returns-then-is_empty-clause-map : goal.returns-then-is_empty-clause-map
+returns-then-is_empty-clause-map c =
     let none : length c.args.blocks.now ≡ 0 = eqb-true (length c.args.blocks.now) 0 (sym c.is_empty.ensures ∙ c.if-is_empty.true) in
     subst (λ (some : List ℕ). IsWith c.args.map.now some c.args.map.now) (sym (empty c.args.blocks.now none)) (with_none c.args.map.now [])

@@ -12,7 +12,7 @@ with-requires c =
     subst (λ (m : List Bool). CanGive m c.args.blocks.now) (sym free)
     (can_give_used r.blocks r.chunks c.args.blocks.now r.well_formed (last_used r.chunks r.agino r.inode r.first c.args.blocks.now r.held r.last))
 
-pub returns : goal.returns
-returns c size chunks agino old new is group at same own =
+pub returns-clause-space : goal.returns-clause-space
+returns-clause-space c size chunks agino old new is group at same own =
     less_follows size chunks agino old new c.args.blocks.now c.args.self.now.records c.self.inside.free c.with.result is.records (ap (λ (s : Space). s.free) c.self.view_is ∙ is.free) group
     at same own c.with.ensures

@@ -10,7 +10,7 @@ without-requires c =
     let free = ap (λ (s : Space). s.free) c.self.view_is ∙ c.requires.space_of.free in
     subst (λ (m : List Bool). CanTake m c.args.blocks.now) (sym free) (can_take_free c.requires.blocks c.requires.chunks c.args.blocks.now c.requires.free)
 
-pub returns : goal.returns
-returns c size chunks agino old new is at same own =
+pub returns-clause-space : goal.returns-clause-space
+returns-clause-space c size chunks agino old new is at same own =
     more_follows size chunks agino old new c.args.blocks.now c.args.self.now.records c.self.inside.free c.without.result is.records (ap (λ (s : Space). s.free) c.self.view_is ∙ is.free)
     at same own c.without.ensures

@@ -52,8 +52,8 @@ without-requires c =
     subst (CanTake c.self.inside.free) (sym c.own_blocks.ensures)
     (can_take_run c.self.inside.free c.args.block (run_in_set r.blocks r.chunks c.self.inside.free c.args.block (ap (λ (s : Space). s.free) c.self.view_is ∙ r.space_of.free) place.2))
 
-pub returns : goal.returns
-returns c blocks chunks new is some none =
+pub returns-clause-space : goal.returns-clause-space
+returns-clause-space c blocks chunks new is some none =
     let r = c.requires in
     let place = c.chunks_have_the_lowest_place.ensures.place r.blocks r.chunks c.args.block r.place in
     added_follows blocks chunks c.args.block new c.self.inside.leaf c.in_ok-leaf.leaf c.take.new.self c.self.inside.free c.without.result c.hold_order.ensures c.in_ok-leaf.ensures.1

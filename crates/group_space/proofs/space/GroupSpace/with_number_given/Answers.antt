@@ -20,11 +20,11 @@ with_any-requires c =
     subst (λ (m : List Bool). CanGive m c.args.blocks.now) (sym free)
     (can_give_used r.blocks r.chunks c.args.blocks.now r.well_formed (own_used r.chunks c.args.agino r.inode c.args.blocks.now r.held r.own))
 
-pub returns : goal.returns
-returns c size chunks old new is group at own gone =
+pub returns-clause-space : goal.returns-clause-space
+returns-clause-space c size chunks old new is group at own gone =
     let r = c.requires in
     let same = ap (λ (s : Space). s.records) c.self.view_is ∙ is.records in
     let was = same_unused chunks r.chunks c.args.agino old r.inode (subst IsLeaf same c.hold_order.ensures) (sym r.space_of.records ∙ is.records) at r.held ∙ is_used r.inode.row r.used in
     given_follows size chunks c.args.agino old new c.args.blocks.now c.self.inside.leaf c.give.new.self c.args.self.now.free (unwrap_or c.with_any.result c.args.self.now.free)
     c.hold_order.ensures same is.free group at was own gone (c.give.ensures.changed ∙ ap (map (where_held c.args.agino (after_give c.args.agino))) c.in_ok-leaf.ensures)
-    (subst (λ (m : List Bool). IsWith m c.args.blocks.now (unwrap_or c.with_any.result m)) (ap (λ (s : Space). s.free) c.self.view_is) c.with_any.ensures)
+    (subst (λ (m : List Bool). IsWith m c.args.blocks.now (unwrap_or c.with_any.result m)) (ap (λ (s : Space). s.free) c.self.view_is) c.with_any.ensures.map)

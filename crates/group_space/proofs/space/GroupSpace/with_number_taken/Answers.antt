@@ -12,8 +12,8 @@ take-requires c =
     bit_in c.in_ok-leaf.leaf r.chunks c.args.agino inode.0 true (subst IsLeaf (sym c.in_ok-leaf.ensures) c.hold_order.ensures)
     (c.in_ok-leaf.ensures ∙ ap (λ (s : Space). s.records) c.self.view_is ∙ r.space_of.records) inode.1 inode.2
 
-pub returns : goal.returns
-returns c blocks chunks old new is at some none =
+pub returns-clause-space : goal.returns-clause-space
+returns-clause-space c blocks chunks old new is at some none =
     let r = c.requires in
     let inode = some_inode (inode_in r.chunks c.args.agino) r.unused in
     let same = ap (λ (s : Space). s.records) c.self.view_is ∙ is.records in
