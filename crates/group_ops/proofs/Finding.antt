@@ -1,9 +1,8 @@
 -- Where the buffers of a number stand among ascending chunks.
-use Rattle.std.proofs.Common.{◌≡◌, ◌≢◌, ◌<◌, ◌≤◌, ◌+◌, ◌-◌, ◌%◌, ℕ, zero, suc, true, leb, eqb, List, [], ◌∷◌, Some, None, length, get_or, inl, inr, refl, ap, sym, ◌∙◌, arith, subst}
+use Rattle.std.proofs.Common.{◌≡◌, ◌≢◌, ◌<◌, ◌≤◌, ◌+◌, ◌-◌, ◌%◌, ℕ, zero, suc, true, leb, eqb, List, [], ◌∷◌, None, length, get_or, inl, inr, refl, ap, sym, ◌∙◌, arith, subst}
 use Rattle.std.specs.List.{slice_get}
 use Rattle.std.specs.List.Sorted.{IsPartitionedBy}
 use Rattle.std.proofs.lemmas.Bool.{cases_lt, leb-true, le-leb, eq-eqb, ne_eqb, cond-true, cond-false}
-use Rattle.life_bytes.specs.declared.sector.Sector.{Sector}
 use Rattle.life_table.specs.Table.{start_of}
 use Rattle.group_ops.specs.Buffers.{Buffers, BuffersAscend, buffer_in}
 
@@ -40,32 +39,40 @@ pub buffer-none : (chunks : List Buffers) (agino : ℕ) (d : Buffers) → ((k : 
 buffer-none [] agino d none = buffer_nil agino
 buffer-none (c ∷ cs) agino d none = buffer_later c cs agino (none 0 (omega arith)) ∙ buffer-none cs agino d (λ k low. none (suc k) (omega arith))
 
--- a number that a chunk's place tells has its buffer there
-pub found_here : (chunks : List Buffers) (agino place start : ℕ) (x : Buffers) (s : Sector) → BuffersAscend chunks → place < length chunks → x ≡ get_or chunks place x
-    → start ≡ x.start → start % 64 ≡ 0 → start ≤ agino → agino - start < 64 → slice_get x.sectors (agino - start) ≡ Some s → Some s ≡ buffer_in chunks agino
-found_here chunks agino place start x s ascends low is own aligned at_most near there =
-    let e : (get_or chunks place x).start ≡ start_of agino = ap (λ (b : Buffers). b.start) (sym is) ∙ sym own ∙ omega (arith, aligned, at_most, near) in
-    let index : agino % 64 ≡ agino - start = omega (arith, aligned, at_most, near) in
-    sym (buffer-at chunks agino place x ascends low e ∙ ap (λ (b : Buffers). slice_get b.sectors (agino % 64)) (sym is) ∙ ap (λ (n : ℕ). slice_get x.sectors n) index ∙ there)
+-- where all chunks start behind a number, none has it
+pub past_all : (chunks : List Buffers) (agino : ℕ) → ((k : ℕ) (e : Buffers) → 0 ≤ k → k < length chunks → agino < (get_or chunks k e).start)
+    → (k : ℕ) (d : Buffers) → k < length chunks → (get_or chunks k d).start ≢ start_of agino
+past_all chunks agino behind k d low same = omega (arith, behind k d (omega arith) low, same)
 
--- where all chunks start behind a number, it has none
-pub found_none : (chunks : List Buffers) (agino : ℕ) (d : Buffers) → ((k : ℕ) (e : Buffers) → 0 ≤ k → k < length chunks → agino < (get_or chunks k e).start) → None ≡ buffer_in chunks agino
-found_none chunks agino d behind = sym (buffer-none chunks agino d (λ k low same. omega (arith, behind k d (omega arith) low, same)))
+-- an element of a list is there whichever value stands for none
+same_there : (xs : List Buffers) (k : ℕ) (d e : Buffers) → k < length xs → get_or xs k d ≡ get_or xs k e
+same_there [] k d e low = absurd (omega arith)
+same_there (x ∷ xs) zero d e low = refl
+same_there (x ∷ xs) (suc k) d e low = same_there xs k d e (omega arith)
 
--- nor where the last one that starts at or before it ends before it
-pub found_past : (chunks : List Buffers) (agino count place start : ℕ) (x : Buffers) → BuffersAscend chunks → place + 1 ≡ count → count ≤ length chunks → x ≡ get_or chunks place x
-    → start ≡ x.start → start % 64 ≡ 0 → start + 64 ≤ agino → ((k : ℕ) (e : Buffers) → count ≤ k → k < length chunks → agino < (get_or chunks k e).start) → None ≡ buffer_in chunks agino
-found_past chunks agino count place start x ascends last within is own aligned far behind =
+-- the last one that starts at or before a number has it, where it does not end before it
+pub placed_here : (chunks : List Buffers) (agino place start : ℕ) (x : Buffers) → place < length chunks → x ≡ get_or chunks place x
+    → start ≡ x.start → start % 64 ≡ 0 → ((d : Buffers) → (get_or chunks place d).start ≤ agino) → agino - start < 64 → (d : Buffers) → (get_or chunks place d).start ≡ start_of agino
+placed_here chunks agino place start x low is own aligned at_most near d =
     let here : (get_or chunks place x).start ≡ start = ap (λ (b : Buffers). b.start) (sym is) ∙ sym own in
-    sym (buffer-none chunks agino x (λ k low same.
+    let same = ap (λ (b : Buffers). b.start) (same_there chunks place d x low) in
+    omega (arith, here, same, aligned, at_most x, near)
+
+-- and none has it where it does
+pub placed_nowhere : (chunks : List Buffers) (agino count place start : ℕ) (x : Buffers) → BuffersAscend chunks → place + 1 ≡ count → count ≤ length chunks → x ≡ get_or chunks place x
+    → start ≡ x.start → start % 64 ≡ 0 → start + 64 ≤ agino → ((k : ℕ) (e : Buffers) → count ≤ k → k < length chunks → agino < (get_or chunks k e).start)
+    → (k : ℕ) (d : Buffers) → k < length chunks → (get_or chunks k d).start ≢ start_of agino
+placed_nowhere chunks agino count place start x ascends last within is own aligned far behind k d low same =
+    let here : (get_or chunks place x).start ≡ start = ap (λ (b : Buffers). b.start) (sym is) ∙ sym own in
+    let stands = ap (λ (b : Buffers). b.start) (same_there chunks k d x low) in
     elim (cases_lt k place) [
-      | inl before ↦ let up = ascends k place x before (omega arith) in omega (arith, up, here, same, far)
+      | inl before ↦ let up = ascends k place x before (omega arith) in omega (arith, up, here, same, stands, far)
       | inr after ↦
           elim (cases_lt k count) [
             | inl equal ↦
                 let e : k ≡ place = omega arith in
                 let there : (get_or chunks k x).start ≡ start = ap (λ (n : ℕ). (get_or chunks n x).start) e ∙ here in
-                omega (arith, there, same, far)
-            | inr past ↦ omega (arith, behind k x past low, same)
+                omega (arith, there, stands, same, far)
+            | inr past ↦ omega (arith, behind k d past low, same)
           ]
-    ]))
+    ]

@@ -2,7 +2,7 @@
 use Rattle.std.proofs.Common.{◌≡◌, ◌<◌, ◌+◌, ◌*◌, ◌%◌, ℕ, zero, suc, Bool, eqb, List, [], ◌∷◌, Some, None, length, map, get_or, inl, inr, refl, ap, sym, ◌∙◌, arith, All}
 use Rattle.std.specs.List.{slice_get}
 use Rattle.std.specs.FinMap as finmap
-use Rattle.std.specs.FinMap.{get-empty}
+use Rattle.std.specs.FinMap.{FinMap, get-empty}
 use Rattle.std.specs.Ordering.{nat_cmp}
 use Rattle.std.proofs.lemmas.Bool.{cases_Bool, eqb-true, cond-false, eq-eqb, false≢true}
 use Rattle.std.proofs.lemmas.Option.{none-some, slice_get-get_or}
@@ -12,7 +12,7 @@ use Rattle.geometry.specs.declared.shape.Geometry.{Geometry}
 use Rattle.ag_header.specs.declared.agi.Agi.{Agi}
 use Rattle.inobt_leaf.specs.declared.chunk.ChunkRec.{ChunkRec}
 use Rattle.inobt_leaf.specs.Chunks.{RecordsAscend}
-use Rattle.inode_cache.specs.Caches.{Cache, incore_at}
+use Rattle.inode_cache.specs.declared.inode.Kept.{Kept}
 use Rattle.life_table.specs.declared.table.Inode.{Inode}
 use Rattle.life_table.specs.declared.table.Chunk.{Chunk}
 use Rattle.life_table.specs.declared.table.Table.{Table}
@@ -22,7 +22,7 @@ use Rattle.sound_image.specs.Encoding.{CanEncode, Layouts, chunk_record, encoded
 use Rattle.sound_image.specs.Rules.{free_set}
 use Rattle.group_ops.specs.Buffers.{AreBuffers, Buffers, BuffersAscend, buffer_in}
 use Rattle.group_ops.specs.Loading.{ShowChunks, Shows}
-use Rattle.group_ops.specs.Values.{StateValue}
+use Rattle.group_ops.specs.Values.{StateValue, kept_at}
 use Rattle.group_ops.specs.Represents.{HasInode, IsGroupOf, incore_for}
 use Rattle.group_ops.proofs.Finding.{buffer_first, buffer_later}
 use Rattle.group_ops.proofs.Told.{SectorsStand}
@@ -95,25 +95,25 @@ there g image group (c ∷ cs) (b ∷ bs) agino inode same whole shown found =
     ]
 
 -- nothing is in core
-no_inode_in_core : (cache : Cache) (agino : ℕ) → cache.inodes ≡ finmap.empty → incore_at cache agino ≡ None
-no_inode_in_core cache agino none = ap (λ m. finmap.get m agino) none ∙ get-empty nat_cmp agino
+no_inode_in_core : (s : StateValue) (agino : ℕ) → s.in_core ≡ finmap.empty → kept_at s agino ≡ None
+no_inode_in_core s agino none = ap (λ m. finmap.get m agino) none ∙ get-empty nat_cmp agino
 
-has_inode : (s : StateValue) (agino : ℕ) (layouts : Layouts) (inode : Inode) (image : List Sector) → s.cache.inodes ≡ finmap.empty
+has_inode : (s : StateValue) (agino : ℕ) (layouts : Layouts) (inode : Inode) (image : List Sector) → s.in_core ≡ finmap.empty
     → IsThere image (sector_in s.geometry s.group agino) s.buffers agino → bytes_at image (sector_in s.geometry s.group agino) ≡ inode_sector s.geometry layouts s.group agino inode
     → HasInode s agino (incore_for layouts s.group agino inode)
 unfolding inode_sector
 has_inode s agino layouts inode image none there stands = record {
-  in_core = rw (no_inode_in_core s.cache agino none) tt;
+  in_core = rw (no_inode_in_core s agino none) tt;
   buffer = rw there.at (λ _. there.bytes ∙ stands);
 }
 
-pub loaded : SectorsStand → (g : Geometry) (t : Table) (layouts : Layouts) (rest : List Sector) (group : ℕ) (header : Agi) (records : List ChunkRec) (free : List Bool) (buffers : List Buffers) (cache : Cache)
+pub loaded : SectorsStand → (g : Geometry) (t : Table) (layouts : Layouts) (rest : List Sector) (group : ℕ) (header : Agi) (records : List ChunkRec) (free : List Bool) (buffers : List Buffers) (in_core : FinMap nat_cmp Kept) (room : ℕ)
     → CanEncode g t layouts rest → group < g.groups → header ≡ header_for g group (group_at t group) layouts → records ≡ map chunk_record (group_at t group)
     → free ≡ free_set g.blocks (group_at t group) → map (λ (chunk : Buffers). chunk.start) buffers ≡ map (λ (r : ChunkRec). r.start) records
-    → All (λ (chunk : Buffers). AreBuffers chunk.start chunk.sectors) buffers → ShowChunks g (encoded g t layouts rest) group buffers → cache.inodes ≡ finmap.empty
-    → IsGroupOf (record { geometry = g; group = group; page = header.root; heads = header.heads; records = records; free = free; buffers = buffers; cache = cache }) t layouts
+    → All (λ (chunk : Buffers). AreBuffers chunk.start chunk.sectors) buffers → ShowChunks g (encoded g t layouts rest) group buffers → in_core ≡ finmap.empty
+    → IsGroupOf (record { geometry = g; group = group; page = header.root; heads = header.heads; space = record { records = records; free = free }; buffers = buffers; in_core = in_core; room = room }) t layouts
 unfolding header_for
-loaded sectors g t layouts rest group header records free buffers cache can inside headed recorded freed same whole shown none =
+loaded sectors g t layouts rest group header records free buffers in_core room can inside headed recorded freed same whole shown none =
     let starts : map (λ (chunk : Buffers). chunk.start) buffers ≡ map (λ (chunk : Chunk). chunk.start) (group_at t group) =
     same ∙ ap (λ (l : List ChunkRec). map (λ (r : ChunkRec). r.start) l) recorded ∙ record_starts (group_at t group) in
     record {
@@ -123,13 +123,15 @@ loaded sectors g t layouts rest group header records free buffers cache can insi
       blocks = can.blocks;
       page = ap (λ (a : Agi). a.root) headed;
       heads = ap (λ (a : Agi). a.heads) headed;
-      records = recorded;
-      free = freed;
+      space = record { records = recorded; free = freed };
       starts = starts;
       inodes = λ agino inode found.
           has_inode _ agino layouts inode (encoded g t layouts rest) none (there g (encoded g t layouts rest) group (group_at t group) buffers agino inode starts whole shown found)
           (sectors g t layouts rest group agino inode can inside found);
-      only = λ agino gone. no_inode_in_core cache agino none;
+      only = λ agino gone.
+          no_inode_in_core
+          (record { geometry = g; group = group; page = header.root; heads = header.heads; space = record { records = records; free = free }; buffers = buffers; in_core = in_core; room = room })
+          agino none;
     }
 
 -- the block of the page that the header names

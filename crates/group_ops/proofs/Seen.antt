@@ -12,7 +12,7 @@ use Rattle.extent_fork.specs.Forks.{HasFork}
 use Rattle.extent_fork.specs.Runs.{runs}
 use Rattle.inode_cache.specs.declared.inode.Incore.{Incore}
 use Rattle.inode_cache.specs.declared.inode.Kept.{Kept}
-use Rattle.inode_cache.specs.Caches.{incore_at, is_dirty}
+use Rattle.inode_cache.specs.Caches.{is_dirty}
 use Rattle.inode_cache.specs.Inodes.{incore_encoding}
 use Rattle.life_table.specs.declared.types.Row.{Row}
 use Rattle.life_table.specs.declared.table.Inode.{Inode}
@@ -22,7 +22,7 @@ use Rattle.life_table.specs.Table.{group_at, inode_in, row_in_life}
 use Rattle.sound_image.specs.Places.{bytes_at, sector_in}
 use Rattle.sound_image.specs.Encoding.{CanEncode, Layouts, bucket_list, core_for, encoded, inode_sector, next_in}
 use Rattle.group_ops.specs.Buffers.{buffer_in}
-use Rattle.group_ops.specs.Values.{StateValue}
+use Rattle.group_ops.specs.Values.{StateValue, kept_at}
 use Rattle.group_ops.specs.Represents.{incore_for}
 use Rattle.group_ops.specs.Telling.{HasRowAt, core_told}
 use Rattle.group_ops.proofs.Told.{SectorsStand, blank, can_encode}
@@ -80,10 +80,10 @@ has_fork sectors forks s t layouts agino inode row bytes shape inside has same =
 
 -- the fork that stands in the buffer of a number that is not in core
 pub buffer_fork : SectorsStand → ForksStand → (s : StateValue) (t : Table) (layouts : Layouts) (agino extents : ℕ) (inode : Inode) (row : Row) (sector : Sector) → IsGeometry s.geometry
-    → s.group < s.geometry.groups → HasRowAt s agino t layouts inode row → incore_at s.cache agino ≡ None → buffer_in s.buffers agino ≡ Some sector → extents ≡ length (runs row.blocks)
+    → s.group < s.geometry.groups → HasRowAt s agino t layouts inode row → kept_at s agino ≡ None → buffer_in s.buffers agino ≡ Some sector → extents ≡ length (runs row.blocks)
     → HasFork sector.bytes extents s.group (runs row.blocks)
 buffer_fork sectors forks s t layouts agino extents inode row sector shape inside has out at many =
-    let told = subst (λ (b : Option Sector). IsSomeAnd b (λ x. is_dirty (incore_at s.cache agino) ≡ false
+    let told = subst (λ (b : Option Sector). IsSomeAnd b (λ x. is_dirty (kept_at s agino) ≡ false
     → x.bytes ≡ incore_encoding s.group s.geometry.uuid agino (incore_for layouts s.group agino inode))) at (has.group.inodes agino inode has.inode_there).buffer in
     subst (λ (n : ℕ). HasFork sector.bytes n s.group (runs row.blocks)) (sym many)
     (has_fork sectors forks s t layouts agino inode row sector.bytes shape inside has (told (ap is_dirty out)))
@@ -91,13 +91,13 @@ buffer_fork sectors forks s t layouts agino extents inode row sector shape insid
 -- a number with a row has a buffer
 pub has_buffer : (s : StateValue) (t : Table) (layouts : Layouts) (agino : ℕ) (inode : Inode) (row : Row) → HasRowAt s agino t layouts inode row → buffer_in s.buffers agino ≡ None → ⊥
 has_buffer s t layouts agino inode row has gone =
-    subst (λ (b : Option Sector). IsSomeAnd b (λ x. is_dirty (incore_at s.cache agino) ≡ false
+    subst (λ (b : Option Sector). IsSomeAnd b (λ x. is_dirty (kept_at s agino) ≡ false
     → x.bytes ≡ incore_encoding s.group s.geometry.uuid agino (incore_for layouts s.group agino inode))) gone (has.group.inodes agino inode has.inode_there).buffer
 
 row_blocks_of : (r : Option Row) (row : Row) → r ≡ Some row → row_blocks r ≡ row.blocks
 row_blocks_of r row e = ap row_blocks e
 
-blocks_of_kept : (s : StateValue) (t : Table) (layouts : Layouts) (agino : ℕ) (inode : Inode) (row : Row) (of : Incore) (o : Option Kept) → HasRowAt s agino t layouts inode row → incore_at s.cache agino ≡ o
+blocks_of_kept : (s : StateValue) (t : Table) (layouts : Layouts) (agino : ℕ) (inode : Inode) (row : Row) (of : Incore) (o : Option Kept) → HasRowAt s agino t layouts inode row → kept_at s agino ≡ o
     → IsSomeAnd o (λ kept. kept.inode ≡ of) → of.blocks ≡ row.blocks
 blocks_of_kept s t layouts agino inode row of None has at found = absurd found
 blocks_of_kept s t layouts agino inode row of (Some kept) has at found =
@@ -106,8 +106,8 @@ blocks_of_kept s t layouts agino inode row of (Some kept) has at found =
 
 -- the blocks of a number in core are those of its row
 pub blocks_in_core : (s : StateValue) (t : Table) (layouts : Layouts) (agino : ℕ) (inode : Inode) (row : Row) (of : Incore) → HasRowAt s agino t layouts inode row
-    → IsSomeAnd (incore_at s.cache agino) (λ kept. kept.inode ≡ of) → of.blocks ≡ row.blocks
-blocks_in_core s t layouts agino inode row of has found = blocks_of_kept s t layouts agino inode row of (incore_at s.cache agino) has refl found
+    → IsSomeAnd (kept_at s agino) (λ kept. kept.inode ≡ of) → of.blocks ≡ row.blocks
+blocks_in_core s t layouts agino inode row of has found = blocks_of_kept s t layouts agino inode row of (kept_at s agino) has refl found
 
 -- what a core tells of a row
 told_extents : (generation next : ℕ) (r : Option Row) (row : Row) (core : Core) → r ≡ Some row → core ≡ core_for generation r next → core.extents ≡ length (runs row.blocks)

@@ -13,7 +13,7 @@ use Rattle.inode_core.specs.declared.shape.Core.{Core}
 use Rattle.inode_core.specs.Cores.{EncodesCore}
 use Rattle.inode_cache.specs.declared.inode.Incore.{Incore}
 use Rattle.inode_cache.specs.declared.inode.Kept.{Kept}
-use Rattle.inode_cache.specs.Caches.{incore_at, is_dirty}
+use Rattle.inode_cache.specs.Caches.{is_dirty}
 use Rattle.inode_cache.specs.Inodes.{incore_encoding}
 use Rattle.life_table.specs.declared.key.Key.{Key}
 use Rattle.life_table.specs.declared.types.Row.{Row}
@@ -24,7 +24,7 @@ use Rattle.life_table.specs.WellFormed.{IsChunk, IsGroup}
 use Rattle.sound_image.specs.Places.{bytes_at, sector_in}
 use Rattle.sound_image.specs.Encoding.{CanEncode, Layouts, bucket_list, core_for, encoded, inode_sector, next_in}
 use Rattle.group_ops.specs.Buffers.{buffer_in}
-use Rattle.group_ops.specs.Values.{StateValue}
+use Rattle.group_ops.specs.Values.{StateValue, kept_at}
 use Rattle.group_ops.specs.Represents.{HasInode, IsGroupOf, incore_for}
 use Rattle.group_ops.specs.Telling.{core_told}
 use Rattle.group_ops.proofs.Places.{none_there}
@@ -67,15 +67,15 @@ encodes sectors cores s t layouts agino inode bytes shape inside is there same =
     (cores s.geometry t layouts (blank s.geometry) s.group agino inode can inside there)
 
 -- an inode in core is the one that the table has
-in_core_of : (layouts : Layouts) (group agino : ℕ) (s : StateValue) (kept : Kept) (o : Option Inode) → incore_at s.cache agino ≡ Some kept
-    → ((inode : Inode) → o ≡ Some inode → HasInode s agino (incore_for layouts group agino inode)) → (o ≡ None → incore_at s.cache agino ≡ None)
+in_core_of : (layouts : Layouts) (group agino : ℕ) (s : StateValue) (kept : Kept) (o : Option Inode) → kept_at s agino ≡ Some kept
+    → ((inode : Inode) → o ≡ Some inode → HasInode s agino (incore_for layouts group agino inode)) → (o ≡ None → kept_at s agino ≡ None)
     → Some kept.inode.core ≡ core_told layouts group agino o
 in_core_of layouts group agino s kept None at has only = absurd (cc (at, only refl))
 in_core_of layouts group agino s kept (Some inode) at has only =
     let same = subst (λ (k : Option Kept). IfSome k (λ x. x.inode ≡ incore_for layouts group agino inode)) at (has inode refl).in_core in
     ap (λ (i : Incore). Some i.core) same
 
-pub told_in_core : (s : StateValue) (t : Table) (layouts : Layouts) (agino : ℕ) (kept : Kept) → IsGroupOf s t layouts → incore_at s.cache agino ≡ Some kept
+pub told_in_core : (s : StateValue) (t : Table) (layouts : Layouts) (agino : ℕ) (kept : Kept) → IsGroupOf s t layouts → kept_at s agino ≡ Some kept
     → Some kept.inode.core ≡ core_told layouts s.group agino (inode_in (group_at t s.group) agino)
 told_in_core s t layouts agino kept is at = in_core_of layouts s.group agino s kept (inode_in (group_at t s.group) agino) at (λ inode e. is.inodes agino inode e) (λ e. is.only agino e)
 
@@ -84,7 +84,7 @@ no_buffer_of : (layouts : Layouts) (group agino : ℕ) (s : StateValue) (o : Opt
     → ((inode : Inode) → o ≡ Some inode → HasInode s agino (incore_for layouts group agino inode)) → None ≡ core_told layouts group agino o
 no_buffer_of layouts group agino s None gone has = refl
 no_buffer_of layouts group agino s (Some inode) gone has =
-    absurd (subst (λ (b : Option Sector). IsSomeAnd b (λ sector. is_dirty (incore_at s.cache agino) ≡ false
+    absurd (subst (λ (b : Option Sector). IsSomeAnd b (λ sector. is_dirty (kept_at s agino) ≡ false
     → sector.bytes ≡ incore_encoding s.group s.geometry.uuid agino (incore_for layouts group agino inode))) gone (has inode refl).buffer)
 
 pub told_no_buffer : (s : StateValue) (t : Table) (layouts : Layouts) (agino : ℕ) → IsGroupOf s t layouts → buffer_in s.buffers agino ≡ None
@@ -92,13 +92,13 @@ pub told_no_buffer : (s : StateValue) (t : Table) (layouts : Layouts) (agino : �
 told_no_buffer s t layouts agino is gone = no_buffer_of layouts s.group agino s (inode_in (group_at t s.group) agino) gone (λ inode e. is.inodes agino inode e)
 
 -- the core that a buffer gives, of a number that is not in core
-buffer_of : (layouts : Layouts) (group agino : ℕ) (s : StateValue) (sector : Sector) (read : Option Core) (o : Option Inode) → incore_at s.cache agino ≡ None → buffer_in s.buffers agino ≡ Some sector
+buffer_of : (layouts : Layouts) (group agino : ℕ) (s : StateValue) (sector : Sector) (read : Option Core) (o : Option Inode) → kept_at s agino ≡ None → buffer_in s.buffers agino ≡ Some sector
     → ((inode : Inode) → o ≡ Some inode → HasInode s agino (incore_for layouts group agino inode)) → (o ≡ None → buffer_in s.buffers agino ≡ None)
     → ((inode : Inode) → o ≡ Some inode → sector.bytes ≡ incore_encoding s.group s.geometry.uuid agino (incore_for layouts group agino inode) → read ≡ Some (incore_for layouts group agino inode).core)
     → read ≡ core_told layouts group agino o
 buffer_of layouts group agino s sector read None out at has gone reads = absurd (cc (at, gone refl))
 buffer_of layouts group agino s sector read (Some inode) out at has gone reads =
-    let encoding = subst (λ (b : Option Sector). IsSomeAnd b (λ x. is_dirty (incore_at s.cache agino) ≡ false
+    let encoding = subst (λ (b : Option Sector). IsSomeAnd b (λ x. is_dirty (kept_at s agino) ≡ false
     → x.bytes ≡ incore_encoding s.group s.geometry.uuid agino (incore_for layouts group agino inode))) at (has inode refl).buffer in
     reads inode refl (encoding (ap is_dirty out))
 
@@ -112,7 +112,7 @@ pub chunks_of : (t : Table) (group : ℕ) → AllByRecursion (IsGroup t.blocks) 
 chunks_of t group all = groups_get t.blocks t.groups group all
 
 pub told_buffer : SectorsStand → CoresStand → (s : StateValue) (t : Table) (layouts : Layouts) (agino : ℕ) (sector : Sector) (read : Option Core) → IsGeometry s.geometry
-    → s.group < s.geometry.groups → IsGroupOf s t layouts → incore_at s.cache agino ≡ None → buffer_in s.buffers agino ≡ Some sector
+    → s.group < s.geometry.groups → IsGroupOf s t layouts → kept_at s agino ≡ None → buffer_in s.buffers agino ≡ Some sector
     → ((core : Core) → EncodesCore sector.bytes (number_in s.group agino) s.geometry.uuid core → read ≡ Some core)
     → read ≡ core_told layouts s.group agino (inode_in (group_at t s.group) agino)
 told_buffer sectors cores s t layouts agino sector read shape inside is out at only =
@@ -123,14 +123,14 @@ told_buffer sectors cores s t layouts agino sector read shape inside is out at o
 
 -- ---- as the code looks an inode up
 
-found_of : (s : StateValue) (t : Table) (layouts : Layouts) (agino : ℕ) (inode : Incore) (o : Option Kept) → IsGroupOf s t layouts → incore_at s.cache agino ≡ o
+found_of : (s : StateValue) (t : Table) (layouts : Layouts) (agino : ℕ) (inode : Incore) (o : Option Kept) → IsGroupOf s t layouts → kept_at s agino ≡ o
     → IsSomeAnd o (λ kept. kept.inode ≡ inode) → Some inode.core ≡ core_told layouts s.group agino (inode_in (group_at t s.group) agino)
 found_of s t layouts agino inode None is at found = absurd found
 found_of s t layouts agino inode (Some kept) is at found = ap (λ (i : Incore). Some i.core) (sym found) ∙ told_in_core s t layouts agino kept is at
 
-pub told_found : (s : StateValue) (t : Table) (layouts : Layouts) (agino : ℕ) (inode : Incore) → IsGroupOf s t layouts → IsSomeAnd (incore_at s.cache agino) (λ kept. kept.inode ≡ inode)
+pub told_found : (s : StateValue) (t : Table) (layouts : Layouts) (agino : ℕ) (inode : Incore) → IsGroupOf s t layouts → IsSomeAnd (kept_at s agino) (λ kept. kept.inode ≡ inode)
     → Some inode.core ≡ core_told layouts s.group agino (inode_in (group_at t s.group) agino)
-told_found s t layouts agino inode is found = found_of s t layouts agino inode (incore_at s.cache agino) is refl found
+told_found s t layouts agino inode is found = found_of s t layouts agino inode (kept_at s agino) is refl found
 
 pub none_is : {X : Type 0} (o : Option X) → is_some o ≡ false → o ≡ None
 none_is None e = refl

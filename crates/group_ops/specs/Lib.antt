@@ -5,3 +5,10 @@ pub mod Represents
 pub mod Telling
 pub mod Loading
 pub mod Rows
+pub mod Changes
+pub mod Relinks
+pub mod Pointers
+pub mod Orphans
+pub mod Staging
+pub mod Keeping
+pub mod Calls

@@ -8,13 +8,13 @@ use Rattle.life_table.specs.declared.table.Table.{Table}
 use Rattle.life_table.specs.Space.{row_blocks}
 use Rattle.life_table.specs.Table.{group_at, inode_in}
 use Rattle.life_table.specs.WellFormed.{IsTable}
-use Rattle.sound_image.specs.Encoding.{AreLayouts, Layouts, bucket_list, chunk_record, core_for, head_of, next_in, page_of}
-use Rattle.sound_image.specs.Rules.{free_set}
+use Rattle.sound_image.specs.Encoding.{AreLayouts, Layouts, bucket_list, core_for, head_of, next_in, page_of}
 use Rattle.inode_cache.specs.declared.inode.Incore.{Incore}
-use Rattle.inode_cache.specs.Caches.{incore_at, is_dirty}
+use Rattle.inode_cache.specs.Caches.{is_dirty}
 use Rattle.inode_cache.specs.Inodes.{incore_encoding}
 use Rattle.group_ops.specs.Buffers.{Buffers, buffer_in}
-use Rattle.group_ops.specs.Values.{StateValue}
+use Rattle.group_space.specs.Space.{IsSpaceOf}
+use Rattle.group_ops.specs.Values.{StateValue, kept_at}
 
 -- an inode of a group as it is in core, with the pointer of its list
 abbrev pub incore_for : Layouts → ℕ → ℕ → Inode → Incore
@@ -26,8 +26,8 @@ incore_for layouts group agino inode =
 
 -- A state has this inode at a number: the inode in core is it, where one is there; and the buffer is its sector, unless the inode in core is dirty.
 pub record HasInode (s : StateValue) (agino : ℕ) (inode : Incore) : Type 0 where
-  pub in_core : IfSome (incore_at s.cache agino) (λ kept. kept.inode ≡ inode)
-  pub buffer : IsSomeAnd (buffer_in s.buffers agino) (λ sector. is_dirty (incore_at s.cache agino) ≡ false
+  pub in_core : IfSome (kept_at s agino) (λ kept. kept.inode ≡ inode)
+  pub buffer : IsSomeAnd (buffer_in s.buffers agino) (λ sector. is_dirty (kept_at s agino) ≡ false
       → sector.bytes ≡ incore_encoding s.group s.geometry.uuid agino inode)
 
 -- The state is its group of this table with these layouts. Who holds an inode is not seen.
@@ -38,12 +38,11 @@ pub record IsGroupOf (s : StateValue) (t : Table) (layouts : Layouts) : Type 0 w
   pub blocks : t.blocks ≡ s.geometry.blocks
   pub page : s.page ≡ page_of layouts s.group
   pub heads : s.heads ≡ map (λ bucket. head_of (bucket_list layouts s.group bucket)) (range_with_len 0 BUCKETS)
-  pub records : s.records ≡ map chunk_record (group_at t s.group)
-  pub free : s.free ≡ free_set s.geometry.blocks (group_at t s.group)
+  pub space : IsSpaceOf s.geometry.blocks (group_at t s.group) s.space
   pub starts : map (λ (chunk : Buffers). chunk.start) s.buffers ≡ map (λ (chunk : Chunk). chunk.start) (group_at t s.group)
   pub inodes : (agino : ℕ) (inode : Inode) → inode_in (group_at t s.group) agino ≡ Some inode
       → HasInode s agino (incore_for layouts s.group agino inode)
-  pub only : (agino : ℕ) → inode_in (group_at t s.group) agino ≡ None → incore_at s.cache agino ≡ None
+  pub only : (agino : ℕ) → inode_in (group_at t s.group) agino ≡ None → kept_at s agino ≡ None
 
 -- the state is its group of some table
 abbrev pub RepresentsGroup : StateValue → Type 0

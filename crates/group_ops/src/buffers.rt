@@ -1,8 +1,10 @@
 //! The buffers of a group's inodes.
 
-ghost use Rattle.std.specs.Prelude.{◌≡◌, ◌≤◌, ◌<◌, ◌+◌, ◌%◌, ℕ, length, slice_get, slice_index_or};
+ghost use Rattle.std.specs.Prelude.{◌≡◌, ◌≢◌, ◌≤◌, ◌<◌, ◌+◌, ◌%◌, ℕ, IfNone, IfSome, length, slice_get, slice_index_or, slice_set, vec_capacity, vec_len};
 ghost use Rattle.life_limits.specs.declared.TheConstants.{CHUNK_INODES, GROUP_NUMBERS};
+ghost use Rattle.life_table.specs.Table.{start_of};
 ghost use Rattle.group_ops.specs.Buffers.{AreBuffers, Buffers, BuffersAscend, buffer_in};
+ghost use Rattle.group_ops.specs.Changes.{insert_buffers, set_buffer, with_chunk};
 
 use life_bytes::Sector;
 use life_limits::CHUNK_INODES;
@@ -54,6 +56,21 @@ impl ChunkBuffers {
     {
         self.sectors[index as usize]
     }
+
+    /// The buffers are those of a chunk, as those of each value of this type.
+    fn hold(&self)
+        ensures { AreBuffers self.now.start self.now.sectors }
+    {
+        let _start = self.start;
+    }
+
+    /// Sets the sector of an inode, by its place in the chunk.
+    fn put(&mut self, index: u32, sector: &Sector)
+        requires { index < CHUNK_INODES }
+        ensures { self.new ≡ record { start = self.old.start; sectors = slice_set self.old.sectors index sector.now } }
+    {
+        self.sectors[index as usize] = *sector;
+    }
 }
 
 /// How many chunks start at or before a number.
@@ -66,17 +83,64 @@ fn count_up_to(chunks: &[ChunkBuffers], agino: u32) -> usize
     chunks.partition_point(|chunk| chunk.start() <= agino)
 }
 
-/// The buffer of a number of the group, where a chunk has it. A search by halves.
+/// The place of the chunk that has a number of the group, where there is one. A search by halves.
+fn place_of(chunks: &[ChunkBuffers], agino: u32) -> Option<usize>
+    requires { BuffersAscend chunks.now }
+    ensures within { IfSome result (λ place. place < length chunks.now) }
+    ensures found { IfSome result (λ place. (d : Buffers) → (slice_index_or chunks.now place d).start ≡ start_of agino) }
+    ensures none { IfNone result ((k : ℕ) (d : Buffers) → k < length chunks.now → (slice_index_or chunks.now k d).start ≢ start_of agino) }
+{
+    let place = count_up_to(chunks, agino).checked_sub(1)?;
+    let start = chunks[place].start();
+    if agino - start < CHUNK_INODES {
+        Some(place)
+    } else {
+        None
+    }
+}
+
+/// The buffer of a number of the group, where a chunk has it.
 pub(crate) fn find_buffer(chunks: &[ChunkBuffers], agino: u32) -> Option<Sector>
     requires { BuffersAscend chunks.now }
     ensures { result ≡ buffer_in chunks.now agino }
 {
-    let place = count_up_to(chunks, agino).checked_sub(1)?;
-    let chunk = &chunks[place];
-    let start = chunk.start();
-    if agino - start < CHUNK_INODES {
-        Some(chunk.at(agino - start))
-    } else {
-        None
+    let place = place_of(chunks, agino)?;
+    Some(chunks[place].at(agino % CHUNK_INODES))
+}
+
+/// Sets the buffer of a number of the group, where a chunk has it.
+pub(crate) fn put_buffer(chunks: &mut Vec<ChunkBuffers>, agino: u32, sector: &Sector)
+    requires { BuffersAscend chunks.old.items }
+    ensures set { chunks.new.items ≡ set_buffer chunks.old.items agino sector.now }
+    ensures capacity { vec_capacity chunks.new ≡ vec_capacity chunks.old }
+{
+    if let Some(place) = place_of(chunks.as_slice(), agino) {
+        chunks[place].put(agino % CHUNK_INODES, sector);
+    }
+}
+
+/// Puts the buffers of one chunk more in their place, for which there has to be room.
+fn add_chunk(chunks: &mut Vec<ChunkBuffers>, new: ChunkBuffers)
+    requires ascend { BuffersAscend chunks.old.items }
+    requires room { vec_len chunks.old < vec_capacity chunks.old }
+    ensures added { chunks.new.items ≡ insert_buffers new chunks.old.items }
+    ensures capacity { vec_capacity chunks.new ≡ vec_capacity chunks.old }
+    ensures whole { AreBuffers new.start new.sectors }
+{
+    new.hold();
+    let place = count_up_to(chunks.as_slice(), new.start());
+    let _ = chunks.insert(place, new);
+}
+
+/// The same, where there is one chunk more.
+pub(crate) fn add_any(chunks: &mut Vec<ChunkBuffers>, new: Option<ChunkBuffers>)
+    requires ascend { BuffersAscend chunks.old.items }
+    requires room { vec_len chunks.old < vec_capacity chunks.old }
+    ensures added { chunks.new.items ≡ with_chunk chunks.old.items new }
+    ensures capacity { vec_capacity chunks.new ≡ vec_capacity chunks.old }
+    ensures whole { IfSome new (λ chunk. AreBuffers chunk.start chunk.sectors) }
+{
+    if let Some(new) = new {
+        add_chunk(chunks, new);
     }
 }

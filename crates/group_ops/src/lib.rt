@@ -2,15 +2,31 @@
 //! buckets of the group.
 #![tactic(auto)]
 
+mod blocks;
 mod buffers;
+mod change;
+mod delta;
 mod fault;
+mod free;
+mod in_core;
+mod links;
 mod load;
+mod next_pointer;
+mod orphans;
+mod pointers;
+mod pointing;
 mod reading;
+mod refusals;
 mod rows;
+mod sectors;
+mod staging;
 mod state;
 
 pub use buffers::ChunkBuffers;
+pub use change::Change;
+pub use delta::{Delta, Head, Prior, Relink};
 pub use fault::LoadFault;
 pub use load::load_group;
+pub use refusals::{CutFault, GrowFault, LinkFault, UnlinkFault};
 pub use rows::RowLine;
 pub use state::GroupState;

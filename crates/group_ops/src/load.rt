@@ -27,18 +27,19 @@ use disk_model::View;
 use encoded_changes::places_have_their_metadata;
 use free_map::{FreeMap, bitmaps_are_the_sets, read_map};
 use geometry::Geometry;
+use group_space::GroupSpace;
 use inobt_leaf::{ChunkRec, Leaf, PageFault, read_page};
 use life_limits::{BLOCK_SECTORS, CHUNK_INODES};
 use sound_image::{chunks_are_read, encoded_places};
 use std::alloc::Global;
 
 /// The sector of a group's header in the group, and the first one of its bitmap.
-const HEADER: u32 = 2;
+pub(crate) const HEADER: u32 = 2;
 
-const BITMAP: u32 = BLOCK_SECTORS;
+pub(crate) const BITMAP: u32 = BLOCK_SECTORS;
 
 /// Sectors of the bitmap of a group.
-const BITMAP_SECTORS: u64 = 4;
+pub(crate) const BITMAP_SECTORS: u64 = 4;
 
 /// The sector of the image at a place of a group.
 fn sector_at(g: &Geometry, group: u32, place: u32) -> u64
@@ -207,7 +208,7 @@ pub fn load_group<V: View>(
     ensures damaged { IsTrue V.known → (t : Table) (layouts : Layouts) (rest : List Sector) → CanEncode g.now t layouts rest
         → V.image view.old ≡ encoded g.now t layouts rest → IfErr result IsNoDamage }
     ensures own { IfOk result (λ state. (state.geometry ≡ g.now) × (state.group ≡ group)) }
-    ensures nothing_in_core { IfOk result (λ state. state.cache.inodes ≡ finmap.empty) }
+    ensures nothing_in_core { IfOk result (λ state. state.in_core ≡ finmap.empty) }
     ensures read_fault { IfErr result (IsLoadCause (V.fault_count view.old) (V.fault_count view.new)) }
     ensures only_read { V.only_read view.old view.new }
 {
@@ -217,5 +218,6 @@ pub fn load_group<V: View>(
     let leaf = load_leaf(alloc, view, g, group, header.root)?;
     let free = load_map(alloc, view, g, group)?;
     let chunks = load_chunks(alloc, view, g, group, leaf.chunks())?;
-    Ok(GroupState::of(alloc, g, group, &header, leaf, free, chunks))
+    let space = GroupSpace::new(leaf, free);
+    Ok(GroupState::of(alloc, g, group, &header, space, chunks))
 }

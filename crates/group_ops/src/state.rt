@@ -24,9 +24,8 @@ ghost use Rattle.group_ops.specs.Telling.{HasRowOf, HasRowAt, core_told};
 use crate::buffers::{ChunkBuffers, find_buffer};
 use ag_header::Agi;
 use extent_fork::{Extent, ForkFault, RunsFault, read_fork, runs_of};
-use free_map::FreeMap;
 use geometry::{Geometry, number};
-use inobt_leaf::Leaf;
+use group_space::GroupSpace;
 use inode_cache::{Incore, InodeCache, begin_cache};
 use inode_core::{Core, read_core};
 use life_bytes::Sector;
@@ -40,20 +39,20 @@ use std::marker::Model;
 /// What the lock of a group guards.
 #[derive(Drop)]
 pub struct GroupState {
-    alloc: Global,
-    geometry: Geometry,
-    group: u32,
+    pub(crate) alloc: Global,
+    pub(crate) geometry: Geometry,
+    pub(crate) group: u32,
     /// The block of the page of its chunks' records.
-    page: u32,
+    pub(crate) page: u32,
     /// The heads of its unlinked buckets.
-    heads: [u32; 64],
-    leaf: Leaf,
-    free: FreeMap,
-    chunks: Vec<ChunkBuffers>,
-    cache: InodeCache,
+    pub(crate) heads: [u32; 64],
+    pub(crate) space: GroupSpace,
+    pub(crate) chunks: Vec<ChunkBuffers>,
+    pub(crate) cache: InodeCache,
 }
 
 impl Model for GroupState {
+    ghost use Rattle.std.specs.Prelude.{◌-◌, min, vec_len, vec_capacity};
     ghost use Rattle.group_ops.specs.Codes.{group_code};
     ghost use Rattle.group_ops.specs.Values.{StateValue, IsState};
 
@@ -61,7 +60,7 @@ impl Model for GroupState {
 
     ghost coded = { group_code };
 
-    ghost view = { λ s. record { geometry = s.geometry; group = s.group; page = s.page; heads = s.heads; records = s.leaf; free = s.free; buffers = s.chunks.items; cache = s.cache } };
+    ghost view = { λ s. record { geometry = s.geometry; group = s.group; page = s.page; heads = s.heads; space = s.space; buffers = s.chunks.items; in_core = s.cache.inodes; room = min s.cache.spare (vec_capacity s.chunks - vec_len s.chunks) } };
 
     ghost invariant = { λ s. IsState s.geometry s.group s.chunks.items s.cache };
 }
@@ -98,7 +97,7 @@ fn runs_in_buffer(
 }
 
 /// The number in its group of a key.
-fn agino_of(key: Key) -> u32
+pub(crate) fn agino_of(key: Key) -> u32
     ensures own { result ≡ key.number % GROUP_NUMBERS }
     ensures small { result < GROUP_NUMBERS }
 {
@@ -112,16 +111,15 @@ impl GroupState {
         g: &Geometry,
         group: u32,
         header: &Agi,
-        leaf: Leaf,
-        free: FreeMap,
+        space: GroupSpace,
         chunks: Vec<ChunkBuffers>,
     ) -> GroupState
         requires shape { IsGeometry g.now }
         requires inside { group < g.now.groups }
         requires ascends { BuffersAscend chunks.items }
         requires whole { All (λ (chunk : Buffers). AreBuffers chunk.start chunk.sectors) chunks.items }
-        ensures parts { result ≡ record { geometry = g.now; group = group; page = header.now.root; heads = header.now.heads; records = leaf; free = free; buffers = chunks.items; cache = result.cache } }
-        ensures nothing_in_core { result.cache.inodes ≡ finmap.empty }
+        ensures parts { result ≡ record { geometry = g.now; group = group; page = header.now.root; heads = header.now.heads; space = space; buffers = chunks.items; in_core = result.in_core; room = result.room } }
+        ensures nothing_in_core { result.in_core ≡ finmap.empty }
     {
         GroupState {
             alloc,
@@ -129,8 +127,7 @@ impl GroupState {
             group,
             page: header.root,
             heads: header.heads,
-            leaf,
-            free,
+            space,
             chunks,
             cache: begin_cache(alloc, group, g.uuid),
         }
@@ -149,6 +146,28 @@ impl GroupState {
         ensures small { result < MAX_GROUPS }
     {
         self.group
+    }
+
+    /// The group is one of an image's, as that of each value of this type.
+    pub(crate) fn hold(&self)
+        ensures shape { IsGeometry self.now.geometry }
+        ensures inside { self.now.group < self.now.geometry.groups }
+    {
+        let _group = self.group;
+    }
+
+    /// The geometry of its image.
+    pub(crate) fn geometry(&self) -> &Geometry
+        ensures { result.now ≡ self.now.geometry }
+    {
+        &self.geometry
+    }
+
+    /// The heads of its unlinked buckets.
+    pub(crate) fn heads(&self) -> [u32; 64]
+        ensures { result ≡ self.now.heads }
+    {
+        self.heads
     }
 
     /// Where a call of this state takes memory.
@@ -183,7 +202,7 @@ impl GroupState {
     }
 
     /// The runs of the blocks of a number in use, of which there are so many.
-    fn runs_at(&self, agino: u32, extents: u32) -> Result<Vec<Extent>, NoMemory>
+    pub(crate) fn runs_at(&self, agino: u32, extents: u32) -> Result<Vec<Extent>, NoMemory>
         requires few { extents ≤ MAX_EXTENTS }
         requires used { (t : Table) × (layouts : Layouts) × (inode : Inode) × (row : Row) × HasRowAt self.now agino t layouts inode row }
         requires many { (t : Table) (layouts : Layouts) (inode : Inode) (row : Row) → HasRowAt self.now agino t layouts inode row → extents ≡ length (runs row.blocks) }

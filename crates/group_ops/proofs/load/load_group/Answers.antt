@@ -5,6 +5,7 @@ use Rattle.inobt_leaf.specs.Chunks.{RecordsAscend}
 use Rattle.life_table.specs.Table.{group_at}
 use Rattle.sound_image.specs.Encoding.{chunk_record}
 use Rattle.sound_image.specs.Rules.{IsInData}
+use Rattle.group_space.specs.Space.{Space}
 use Rattle.group_ops.specs.Loading.{IsNoDamage, ShowChunks}
 use Rattle.group_ops.specs.Represents.{IsGroupOf}
 use Rattle.group_ops.specs.Values.{StateValue}
@@ -59,8 +60,16 @@ returns-clause-represents g c known t layouts rest can image =
     let free = c.in_ok-free.ensures.map known t layouts rest can (laws.image_stays v c.load_leaf.new.view second ∙ image) in
     let starts = c.in_ok-chunks.ensures.starts ∙ ap (λ (l : List ChunkRec). map (λ (r : ChunkRec). r.start) l) c.chunks.ensures.all in
     let shown = subst (λ (l : List Sector). ShowChunks a.g.now l a.group c.in_ok-chunks.chunks.items) (laws.image_stays v c.load_map.new.view third ∙ image) (c.in_ok-chunks.ensures.shown known) in
-    subst (λ (s : StateValue). IsGroupOf s t layouts) (sym c.of.ensures.parts)
-    (loaded c.encoded_places.ensures.inode a.g.now t layouts rest a.group c.in_ok-header.header c.in_ok-leaf.leaf c.in_ok-free.free c.in_ok-chunks.chunks.items c.of.result.cache can
+    let parts =
+    c.of.ensures.parts
+    ∙ ap
+    (λ (space : Space).
+    let v : StateValue =
+    record { geometry = a.g.now; group = a.group; page = c.in_ok-header.header.root; heads = c.in_ok-header.header.heads; space = space; buffers = c.in_ok-chunks.chunks.items; in_core = c.of.result.in_core; room = c.of.result.room } in
+    v)
+    c.new-space.ensures in
+    subst (λ (s : StateValue). IsGroupOf s t layouts) (sym parts)
+    (loaded c.encoded_places.ensures.inode a.g.now t layouts rest a.group c.in_ok-header.header c.in_ok-leaf.leaf c.in_ok-free.free c.in_ok-chunks.chunks.items c.of.result.in_core c.of.result.room can
     c.requires.inside header records free starts c.in_ok-chunks.ensures.whole shown c.of.ensures.nothing_in_core)
 
 pub returns-clause-only_read : goal.returns-clause-only_read
