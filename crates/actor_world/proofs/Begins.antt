@@ -28,7 +28,7 @@ use Rattle.actor_world.specs.Words.{Due, DueHolds, due_at, due_number, install, 
 use Rattle.actor_world.specs.Licence.{BelongsTo, Interval, Licensed, Unfinished, queue_at}
 use Rattle.actor_world.specs.Invariant.{ActorIsRight, DoingIsRight, FreesAreRight, GroupIsThere, HasEntry, Invariant, JobOfDoing, JobOfHolder, LiesInGroup, LiesInLog, PlaceKeeps, QueueIsRight, WordIsRight, due_of_actor, due_of_doing, due_of_holder, first_key, is_gc, is_gc_call, key_made, reply_at, unanswered, unfinished_from, unfinished_of}
 use Rattle.actor_world.proofs.Geometry.{is_placed}
-use Rattle.actor_world.proofs.Lists.{read_other, read_same, set-length, the_some}
+use Rattle.actor_world.proofs.Lists.{contains_cons, read_other, read_same, set-length, the_some}
 use Rattle.actor_world.proofs.LiveWords.{has_inode}
 use Rattle.actor_world.proofs.TurnsFound.{Laws, table_now}
 use Rattle.actor_world.proofs.Within.{Within, within}
@@ -229,9 +229,6 @@ module _ (laws : Laws) (start : Table) (h : History) (m : Memory) (inv : Within 
   ]
 
 -- ---- calls in progress
-
-contains_cons : {X : Type 0} (y : X) (ys : List X) (x : X) → Contains ys x → Contains (y ∷ ys) x
-contains_cons y ys x (k, low, at) = (suc k, omega (arith, low), at)
 
 contains_under : {X : Type 0} (y : X) (ys zs : List X) (x : X) → (Contains ys x → Contains zs x) → Contains (y ∷ ys) x → Contains (y ∷ zs) x
 contains_under y ys zs x f (zero, low, at) = (zero, omega arith, at)

@@ -26,7 +26,7 @@ use Rattle.actor_world.specs.Words.{any_row}
 use Rattle.actor_world.specs.Settled.{IsPast, IsSettled}
 use Rattle.actor_world.proofs.Frames.{inode_is}
 use Rattle.actor_world.proofs.Geometry.{is_placed}
-use Rattle.actor_world.proofs.Lists.{all_append, all_contains, all_weaker, the_some}
+use Rattle.actor_world.proofs.Lists.{contains_tail, all_append, all_contains, all_weaker, the_some}
 use Rattle.actor_world.proofs.LiveWords.{any_row_is, has_inode}
 use Rattle.actor_world.proofs.Looks.{inode_same, row_other}
 use Rattle.actor_world.proofs.Own.{awaiting_ascend, awaiting_free, awaiting_has, settled_free}
@@ -165,17 +165,13 @@ frees_leave actor (key ∷ keys) t k row ascend all is =
     let rest = frees_leave actor keys (freed t key) k row ascend.1 (free_rest t key keys ascend.0 all.1) is in
     elim (cases_eq k.number key.number) [
       | inl same ↦ absurd (bare_not t key k row all.0 same rest.0)
-      | inr apart ↦ (sym (row_other t k key.number _ (λ e. apart (sym e))) ∙ rest.0, not_head keys key k apart rest.1)
+      | inr apart ↦ (sym (row_other t k key.number _ (λ e. apart (sym e))) ∙ rest.0, λ there. rest.1 (contains_tail key keys k (λ e. apart (ap (λ (x : Key). x.number) e)) there))
     ]
   where
     bare_not : (t : Table) (key k : Key) (row : Row) → IsSomeAnd (row_of t key) Awaits → k.number ≡ key.number → row_of (freed t key) k ≡ Some row → ⊥
     bare_not t key k row awaits same is =
         let old = the_some Awaits (row_of t key) awaits in
         none-some row (sym (freed_bare t key old.0 old.1) ∙ ap (λ n. any_row (inode_of (freed t key) n)) (sym same) ∙ any_row_is (freed t key) k row is)
-
-    not_head : (keys : List Key) (key k : Key) → k.number ≢ key.number → (Contains keys k → ⊥) → Contains (key ∷ keys) k → ⊥
-    not_head keys key k apart rest (zero, low, at) = apart (ap (λ (x : Key). x.number) (sym at))
-    not_head keys key k apart rest (suc n, low, at) = rest (n, omega (arith, low), at)
 
 module _ (t : Table) (ok : IsTable t) (actor : ℕ) where
   all_await : AllByRecursion (λ (k : Key). IsSomeAnd (row_of t k) Awaits) (awaiting_rows t)

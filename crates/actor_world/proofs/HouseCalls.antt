@@ -33,7 +33,7 @@ use Rattle.actor_world.specs.Invariant.{GroupIsThere, Invariant}
 use Rattle.actor_world.proofs.Begins.{begin_kept}
 use Rattle.actor_world.proofs.Effects.{effect_actors, effect_of, read_copied, slots_stay}
 use Rattle.actor_world.proofs.Kept.{AllLaws, invariant_kept}
-use Rattle.actor_world.proofs.Lists.{read_same}
+use Rattle.actor_world.proofs.Lists.{contains_cons, contains_tail, read_same}
 use Rattle.actor_world.proofs.Slots.{cache_same, live_has_slot, slot_other, slot_same}
 use Rattle.actor_world.proofs.StepTurns.{TurnOf, stepped, turn_from}
 use Rattle.actor_world.proofs.Turns.{Turn, after_turn, changes, copies, ends_flush, ends_reclaim, goes_on, is_answered, kills, leaves, locks_reclaim, locks_short, retires, retires_none}
@@ -76,9 +76,6 @@ copied_all m g low number inside dirty =
 
 -- ---- a reclaim
 
-contains_on : (y : ℕ) (ys : List ℕ) (x : ℕ) → Contains ys x → Contains (y ∷ ys) x
-contains_on y ys x (k, low, at) = (suc k, omega (arith, low), at)
-
 clean_has : (number : ℕ) (slots : List Slot) (i : ℕ) → i < length slots → (slice_index_or slots i first_slot).inode ≡ Clean → Contains (clean_numbers number slots) (number + i)
 unfolding clean_numbers
 clean_has number [] i low clean = absurd (omega (arith, low))
@@ -88,7 +85,7 @@ clean_has number (slot ∷ slots) zero low clean =
 clean_has number (slot ∷ slots) (suc i) low clean =
     let more : Contains (clean_numbers (number + 1) slots) (number + suc i) = subst (λ n. Contains (clean_numbers (number + 1) slots) n) (omega arith) (clean_has (number + 1) slots i (omega (arith, low)) clean) in
     elim (is_clean slot.inode) as (λ b. Contains (if b then number ∷ clean_numbers (number + 1) slots else clean_numbers (number + 1) slots) (number + suc i)) [
-      | true ↦ contains_on number (clean_numbers (number + 1) slots) (number + suc i) more
+      | true ↦ contains_cons number (clean_numbers (number + 1) slots) (number + suc i) more
       | false ↦ more
     ]
 
@@ -105,12 +102,8 @@ looked_now m a g core n inside live =
       | Dirty ↦ λ is. inr (inr (inr (ap (λ (s : Slot). s.inode) same ∙ is)))
     ] refl
 
-tail_has : (number : ℕ) (others : List ℕ) (n : ℕ) → n ≢ number → Contains (number ∷ others) n → Contains others n
-tail_has number others n apart (zero, low, at) = absurd (apart (sym at))
-tail_has number others n apart (suc k, low, at) = (k, omega (arith, low), at)
-
 looked_on : (m memory : Memory) (n number : ℕ) (others : List ℕ) → n ≢ number → slot_at memory n ≡ slot_at m n → Contains (number ∷ others) n ⊎ IsKept m n → Contains others n ⊎ IsKept memory n
-looked_on m memory n number others apart same (inl there) = inl (tail_has number others n apart there)
+looked_on m memory n number others apart same (inl there) = inl (contains_tail number others n apart there)
 looked_on m memory n number others apart same (inr (inl pins)) = inr (inl (subst (λ (s : Slot). 1 ≤ s.word.pins) (sym same) pins))
 looked_on m memory n number others apart same (inr (inr (inl mark))) = inr (inr (inl (ap (λ (s : Slot). s.word.unlinked) same ∙ mark)))
 looked_on m memory n number others apart same (inr (inr (inr dirty))) = inr (inr (inr (ap (λ (s : Slot). s.inode) same ∙ dirty)))

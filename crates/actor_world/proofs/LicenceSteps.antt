@@ -30,7 +30,7 @@ use Rattle.actor_world.proofs.Begins.{behind}
 use Rattle.actor_world.proofs.CommitSteps.{leads_after}
 use Rattle.actor_world.proofs.Effects.{effect_actors, effect_of}
 use Rattle.actor_world.proofs.EntrySteps.{Answers, EndTurn, EntryTurn, Frees, Gets, Had, Silent, end_turn, entry_turn}
-use Rattle.actor_world.proofs.Lists.{get_kept, get_last, get_push}
+use Rattle.actor_world.proofs.Lists.{take_all, get_kept, get_last, get_push}
 use Rattle.actor_world.proofs.StepTurns.{TurnOf}
 use Rattle.actor_world.proofs.Turns.{Turn, after_turn, changes, frees_head, frees_one, grow_refuses, is_answered, makes, makes_none, next_empty, passes_last, refuses, room_group}
 
@@ -89,10 +89,6 @@ own_stays n (actor ∷ actors) (suc i) new d low is none =
 -- the first entries of a history with one more
 first_same : (entries : List Entry) (entry : Entry) (n : ℕ) → n ≤ length entries → take n (entries ++ entry ∷ []) ≡ take n entries
 first_same entries entry n low = take-append-le n entries (entry ∷ []) low
-
-take_all : (entries : List Entry) → take (length entries) entries ≡ entries
-take_all [] = refl
-take_all (entry ∷ entries) = ap (λ es. entry ∷ es) (take_all entries)
 
 module _ (start : Table) (h : History) (a begin : ℕ) (event : Event) (long : length h.froms ≡ length h.entries) where
   queue_same : (n b : ℕ) → n ≤ length h.entries → queue_at start (h.entries ++ record { actor = a; event = event } ∷ []) n b ≡ queue_at start h.entries n b

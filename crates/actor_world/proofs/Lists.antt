@@ -1,6 +1,7 @@
 -- Lists with one element changed, or one more.
-use Rattle.std.proofs.Common.{◌≡◌, ◌≢◌, ◌+◌, ◌<◌, ◌≤◌, ◌⊎◌, inl, inr, ℕ, zero, suc, List, [], ◌∷◌, ◌++◌, Option, None, Some, IsSomeAnd, length, slice_get, slice_index_or, slice_set, refl, sym, ap, subst, arith}
+use Rattle.std.proofs.Common.{◌≡◌, ◌≢◌, ◌+◌, ◌<◌, ◌≤◌, ◌⊎◌, inl, inr, ℕ, zero, suc, List, [], ◌∷◌, ◌++◌, Option, None, Some, IsSome, IsSomeAnd, length, take, slice_get, slice_index_or, slice_set, refl, sym, ap, subst, arith}
 use Rattle.std.specs.List.{AllByRecursion, Contains}
+use Rattle.std.proofs.lemmas.Bool.{false≢true}
 use Rattle.std.proofs.lemmas.Option.{none-some}
 use Rattle.std.proofs.lemmas.List.{get_or-set_same, get_or-set_other}
 
@@ -60,6 +61,19 @@ pub all_weaker : {X : Type 0} (P Q : X → Type 0) (xs : List X) → ((x : X) �
 all_weaker P Q [] f all = tt
 all_weaker P Q (x ∷ xs) f all = (f x all.0, all_weaker P Q xs f all.1)
 
+-- what a list contains behind its head
+pub contains_cons : {X : Type 0} (y : X) (ys : List X) (x : X) → Contains ys x → Contains (y ∷ ys) x
+contains_cons y ys x (k, low, at) = (suc k, omega (arith, low), at)
+
+pub contains_tail : {X : Type 0} (y : X) (ys : List X) (x : X) → x ≢ y → Contains (y ∷ ys) x → Contains ys x
+contains_tail y ys x apart (zero, low, at) = absurd (apart (sym at))
+contains_tail y ys x apart (suc k, low, at) = (k, omega (arith, low), at)
+
+-- all of a list
+pub take_all : {X : Type 0} (xs : List X) → take (length xs) xs ≡ xs
+take_all [] = refl
+take_all (x ∷ xs) = ap (λ ys. x ∷ ys) (take_all xs)
+
 -- an element of a list with one more at its end
 pub get_push : {X : Type 0} (xs : List X) (x y : X) (i : ℕ) → slice_get (xs ++ x ∷ []) i ≡ Some y → ((i < length xs) × (slice_get xs i ≡ Some y)) ⊎ ((i ≡ length xs) × (Some x ≡ Some y))
 get_push [] x y zero at = inr (refl, at)
@@ -87,6 +101,11 @@ length-push (z ∷ xs) x = let rest = length-push xs x in omega (arith, rest)
 pub the_some : {X : Type 0} (P : X → Type 0) (o : Option X) → IsSomeAnd o P → (x : X) × (o ≡ Some x) × P x
 the_some P None is = absurd is
 the_some P (Some x) is = (x, refl, is)
+
+-- none is not some
+pub gone_not : {X : Type 0} (o : Option X) → o ≡ None → IsSome o → ⊥
+gone_not None none has = false≢true has
+gone_not (Some x) none has = none-some x (sym none)
 
 pub is_some_and : {X : Type 0} (P : X → Type 0) (o : Option X) (x : X) → o ≡ Some x → P x → IsSomeAnd o P
 is_some_and {X = X} P None x at is = absurd (none-some x at)

@@ -32,7 +32,7 @@ use Rattle.actor_world.specs.Invariant.{FreesAreRight, HasFreed, HasRow, IsClean
 use Rattle.actor_world.specs.Settled.{IsSettled}
 use Rattle.actor_world.proofs.Effects.{slots_stay}
 use Rattle.actor_world.proofs.Frames.{inode_is, made_number}
-use Rattle.actor_world.proofs.Lists.{all_read, get_last, read_past, the_some}
+use Rattle.actor_world.proofs.Lists.{contains_tail, gone_not, all_read, get_last, read_past, the_some}
 use Rattle.actor_world.proofs.Geometry.{is_placed}
 use Rattle.actor_world.proofs.LiveWords.{any_row_is, has_inode}
 use Rattle.actor_world.proofs.Locks.{maker_call_group, room_call_group}
@@ -138,11 +138,7 @@ module _ (t : Table) (g : ℕ) where
 module _ (start : Table) (entries : List Entry) (t : Table) (g : ℕ) (begin : ℕ) (laid : AreLaid (group_at t g))
     (awaited : (key : Key) → IsSomeAnd (row_of (table_at start entries begin) key) Awaits → IsSettled t key) where
   settled_awaits : (key : Key) → HasRow t key → IsSettled t key → IsSomeAnd (row_of t key) Awaits
-  settled_awaits key has (inl past) = absurd (none_has (row_of t key) (past_gone t key past) has)
-    where
-      none_has : (o : Option Row) → o ≡ None → IsSome o → ⊥
-      none_has None none has = false≢true has
-      none_has (Some row) none has = none-some row (sym none)
+  settled_awaits key has (inl past) = absurd (gone_not (row_of t key) (past_gone t key past) has)
   settled_awaits key has (inr awaits) = awaits
 
   pub awaiting_left : RowsLeft start entries t (Some g) begin (awaiting_of t g)
@@ -183,14 +179,6 @@ module _ (start : Table) (entries later : List Entry) (t : Table) (g : Option �
     freed_rest others above.1 free.1,
   )
 
-  tail_has : (others : List Key) (k : Key) → k.number ≢ key.number → Contains (key ∷ others) k → Contains others k
-  tail_has others k apart (zero, low, at) = absurd (apart (ap (λ (x : Key). x.number) (sym at)))
-  tail_has others k apart (suc n, low, at) = (n, omega (arith, low), at)
-
-  none_has : (o : Option Row) → o ≡ None → IsSome o → ⊥
-  none_has None none has = false≢true has
-  none_has (Some row) none has = none-some row (sym none)
-
   freed_left : (others : List Key) → RowsLeft start entries t g begin (key ∷ others) → RowsLeft start later (freed t key) g begin others
   freed_left others left = record {
     free = freed_rest others left.ascend.0 left.free.1;
@@ -199,9 +187,9 @@ module _ (start : Table) (entries later : List Entry) (t : Table) (g : Option �
         elim (cases_eq k.number key.number) [
           | inl same ↦
               let row = the_some Awaits (row_of t key) awaits in
-              absurd (none_has (row_of (freed t key) k) (bare_gone (freed t key) k (ap (λ n. any_row (inode_of (freed t key) n)) same ∙ freed_bare t key row.0 row.1)) has)
+              absurd (gone_not (row_of (freed t key) k) (bare_gone (freed t key) k (ap (λ n. any_row (inode_of (freed t key) n)) same ∙ freed_bare t key row.0 row.1)) has)
           | inr apart ↦
-              tail_has others k apart (left.passed k group (subst (λ v. IsSomeAnd (row_of v k) Awaits) begun awaited)
+              contains_tail key others k (λ e. apart (ap (λ (x : Key). x.number) e)) (left.passed k group (subst (λ v. IsSomeAnd (row_of v k) Awaits) begun awaited)
               (subst (λ (o : Option Row). IsSome o) (row_other t k key.number _ (λ e. apart (sym e))) has))
         ];
   }

@@ -1,6 +1,7 @@
 -- The keys of those inodes of a group that meet a test, ascending.
 use Rattle.std.proofs.Common.{◌≡◌, ◌<◌, ◌≤◌, ◌+◌, ◌-◌, ◌*◌, ◌/◌, ◌%◌, ◌==◌, ◌++◌, ℕ, Bool, zero, suc, true, false, List, [], ◌∷◌, Some, if◌then◌else◌, length, slice_get, refl, sym, ap, subst, ◌∙◌, arith, inl, inr}
 use Rattle.std.specs.List.{AllByRecursion, Contains, flat_map, range_with_len}
+use Rattle.std.proofs.lemmas.List.Elements.{Contains-append_left, Contains-append_right}
 use Rattle.std.proofs.lemmas.Option.{none-some, same_Some, slice_get_within}
 use Rattle.std.proofs.lemmas.Bool.{cases_lt, eqb-true, eq-eqb}
 use Rattle.life_limits.specs.declared.TheConstants.{CHUNK_INODES, GROUP_NUMBERS, MAX_BLOCKS}
@@ -14,7 +15,7 @@ use Rattle.life_table.specs.WellFormed.{ChunksAscend, IsChunk, IsDataBlock, IsGr
 use Rattle.actor_world.specs.Moves.{awaiting_from, awaiting_of, is_awaiting_row}
 use Rattle.actor_world.specs.Invariant.{KeysAscend}
 use Rattle.actor_world.proofs.Geometry.{times-append, times-range}
-use Rattle.actor_world.proofs.Lists.{all_append, all_read, all_weaker, read_past}
+use Rattle.actor_world.proofs.Lists.{all_append, all_read, all_weaker, contains_cons, read_past}
 use Rattle.actor_world.proofs.Prepares.{none_above}
 
 -- ---- of a chunk
@@ -42,9 +43,6 @@ picked_all test P number (inode ∷ inodes) f =
       | false ↦ λ is. rest
     ] refl
 
-contains_on : {X : Type 0} (y : X) (ys : List X) (x : X) → Contains ys x → Contains (y ∷ ys) x
-contains_on y ys x (k, low, at) = (suc k, omega (arith, low), at)
-
 pub picked_has : (test : Inode → Bool) (number : ℕ) (inodes : List Inode) (i : ℕ) (inode : Inode) → slice_get inodes i ≡ Some inode → test inode ≡ true
     → Contains (picked test number inodes) (record { number = number + i; generation = inode.generation })
 unfolding picked
@@ -60,7 +58,7 @@ picked_has test number (first ∷ inodes) (suc i) inode at is =
     let rest : Contains (picked test (number + 1) inodes) (record { number = number + suc i; generation = inode.generation }) =
     number_is (number + 1 + i) (number + suc i) inode (λ k. Contains (picked test (number + 1) inodes) k) (omega arith) (picked_has test (number + 1) inodes i inode at is) in
     elim (test first) as (λ b. Contains (if b then record { number = number; generation = first.generation } ∷ picked test (number + 1) inodes else picked test (number + 1) inodes) (record { number = number + suc i; generation = inode.generation })) [
-      | true ↦ contains_on _ (picked test (number + 1) inodes) _ rest
+      | true ↦ contains_cons _ (picked test (number + 1) inodes) _ rest
       | false ↦ rest
     ]
 
@@ -157,15 +155,6 @@ picks_all test P g (chunk ∷ chunks) laid f =
     (f (chunk.start + i) inode (in_first chunk chunks i inode laid.chunks.0 at) (let inside = laid.chunks.0.inside in let whole = laid.chunks.0.whole in omega (arith, inside, whole, low)) is)))
     (picks_all test P g chunks (ascend_of chunk chunks laid) (λ agino inode at few is. f agino inode (in_later chunk chunks agino inode laid.ascends at) few is))
 
-contains_left : (xs ys : List Key) (x : Key) → Contains xs x → Contains (xs ++ ys) x
-contains_left [] ys x (k, low, at) = absurd (omega (arith, low))
-contains_left (y ∷ xs) ys x (zero, low, at) = (zero, omega arith, at)
-contains_left (y ∷ xs) ys x (suc k, low, at) = contains_on y (xs ++ ys) x (contains_left xs ys x (k, omega (arith, low), at))
-
-contains_right : (xs ys : List Key) (x : Key) → Contains ys x → Contains (xs ++ ys) x
-contains_right [] ys x there = there
-contains_right (y ∷ xs) ys x there = contains_on y (xs ++ ys) x (contains_right xs ys x there)
-
 pub picks_has : (test : Inode → Bool) (g : ℕ) (group : Group) (agino : ℕ) (inode : Inode) → inode_in group agino ≡ Some inode → test inode ≡ true
     → Contains (picks test g group) (record { number = g * GROUP_NUMBERS + agino; generation = inode.generation })
 unfolding picks inode_in
@@ -177,9 +166,9 @@ picks_has test g (chunk ∷ chunks) agino inode at is =
     → Contains (here ++ rest) (record { number = g * GROUP_NUMBERS + agino; generation = inode.generation })) [
       | true ↦ λ same at.
           let start : chunk.start ≡ agino - agino % CHUNK_INODES = eqb-true chunk.start (start_of agino) same in
-          contains_left here rest _ (number_is (g * GROUP_NUMBERS + chunk.start + agino % CHUNK_INODES) (g * GROUP_NUMBERS + agino) inode (λ k. Contains here k) (omega (arith, start))
+          Contains-append_left here rest _ (number_is (g * GROUP_NUMBERS + chunk.start + agino % CHUNK_INODES) (g * GROUP_NUMBERS + agino) inode (λ k. Contains here k) (omega (arith, start))
           (picked_has test (g * GROUP_NUMBERS + chunk.start) chunk.inodes (agino % CHUNK_INODES) inode at is))
-      | false ↦ λ other at. contains_right here rest _ (picks_has test g chunks agino inode at is)
+      | false ↦ λ other at. Contains-append_right here rest _ (picks_has test g chunks agino inode at is)
     ] refl at
 
 pub ascend_append : (xs ys : List Key) (bound : ℕ) → KeysAscend xs → KeysAscend ys → AllByRecursion (λ (key : Key). key.number < bound) xs → AllByRecursion (λ (key : Key). bound ≤ key.number) ys → KeysAscend (xs ++ ys)

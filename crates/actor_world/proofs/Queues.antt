@@ -29,10 +29,10 @@ use Rattle.actor_world.specs.Invariant.{DoingIsRight, HeadIsPassed, PartOfQueue,
 use Rattle.actor_world.specs.Settled.{IsPast, IsSettled}
 use Rattle.actor_world.proofs.Holding.{two_hold}
 use Rattle.actor_world.proofs.LegalSteps.{turn_by, turn_happens}
-use Rattle.actor_world.proofs.Lists.{all_contains}
+use Rattle.actor_world.proofs.Lists.{take_all, all_contains}
 use Rattle.actor_world.proofs.LiveWords.{any_row_is}
 use Rattle.actor_world.proofs.Prepares.{LowestIsFree}
-use Rattle.actor_world.proofs.Settles.{by_holder, gone_past, past_gone, past_one, take_whole}
+use Rattle.actor_world.proofs.Settles.{by_holder, gone_past, past_gone, past_one}
 use Rattle.actor_world.proofs.StepTurns.{TurnOf}
 use Rattle.actor_world.proofs.Turns.{HeldWord, Turn, after_turn, changer_key, changes, frees_head, frees_one, is_answered, leaves, maker_group, makes, makes_none, next_empty, passes, passes_last, refuses, room_group, unpins}
 use Rattle.actor_world.proofs.TurnsFound.{Laws, live_row, table_now}
@@ -48,7 +48,7 @@ queue_push t [] entry b keys = refl
 queue_push t (first ∷ entries) entry b keys = queue_push (after_event t first.event) entries entry b (queue_after b (after_event t first.event) first keys)
 
 whole_at : (start : Table) (entries : List Entry) (b : ℕ) → queue_at start entries (length entries) b ≡ queue_from start entries b []
-whole_at start entries b = ap (λ es. queue_from start es b []) (take_whole entries)
+whole_at start entries b = ap (λ es. queue_from start es b []) (take_all entries)
 
 queue_more : (start : Table) (h : History) (a b : ℕ) (event : Event) → after_entries start h.entries ≡ h.table
     → queue_at start (h.entries ++ record { actor = a; event = event } ∷ []) (length (h.entries ++ record { actor = a; event = event } ∷ [])) b

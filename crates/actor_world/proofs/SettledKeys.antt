@@ -24,9 +24,9 @@ use Rattle.actor_world.proofs.CommitSteps.{leads_after}
 use Rattle.actor_world.proofs.LegalSteps.{legal_kept}
 use Rattle.actor_world.proofs.StepTurns.{by_turn}
 use Rattle.actor_world.proofs.Within.{within}
-use Rattle.actor_world.proofs.Lists.{the_some}
+use Rattle.actor_world.proofs.Lists.{gone_not, take_all, the_some}
 use Rattle.actor_world.proofs.Prepares.{LowestIsFree}
-use Rattle.actor_world.proofs.Settles.{HasLived, lived_from, past_gone, permitted_at, settled_from, take_whole}
+use Rattle.actor_world.proofs.Settles.{HasLived, lived_from, past_gone, permitted_at, settled_from}
 use Rattle.actor_world.proofs.TurnsFound.{Laws}
 
 stale_none : (t : Table) (key : Key) (answer : Reply) → KeyReplies t None (call.OpenKey key) answer → answer ≡ reply.Stale
@@ -49,10 +49,6 @@ stale t key answer (inr awaits) permits =
 settled_now : (t : Table) (key : Key) (o : Option Row) → row_of t key ≡ o → HasLived t key → KeyReplies t o (call.OpenKey key) reply.Stale → IsSettled t key
 settled_now t key None is (inl past) permits = inl past
 settled_now t key None is (inr has) permits = absurd (gone_not (row_of t key) is has)
-  where
-    gone_not : (o : Option Row) → o ≡ None → IsSome o → ⊥
-    gone_not None none has = let clash : false ≡ true = has in cc
-    gone_not (Some row) none has = none-some row (sym none)
 settled_now t key (Some row) is lived permits = inr (subst (λ (o : Option Row). IsSomeAnd o Awaits) (sym is) permits)
 
 module _ (laws : Laws) (lowest : LowestIsFree) (start : Table) (ok : IsTable start) (entries : List Entry) (t : Table) (legal : LegalHistory start entries t) (key : Key) where
@@ -73,7 +69,7 @@ after_told laws lowest start h a begin None key ok before after settled = settle
 after_told laws lowest start h a begin (Some event) key ok before after settled =
     let entry : Entry = record { actor = a; event = event } in
     let same : table_at start (h.entries ++ entry ∷ []) (length h.entries) ≡ h.table =
-    ap (λ (es : List Entry). after_entries start es) (take-append-le (length h.entries) h.entries (entry ∷ []) (omega arith) ∙ take_whole h.entries) ∙ sym (leads_after start h.table h.entries before.leads) in
+    ap (λ (es : List Entry). after_entries start es) (take-append-le (length h.entries) h.entries (entry ∷ []) (omega arith) ∙ take_all h.entries) ∙ sym (leads_after start h.table h.entries before.leads) in
     settled_from laws lowest start ok (h.entries ++ entry ∷ []) (told a begin event h).table (length h.entries) key after (subst (λ t. IsSettled t key) (sym same) settled)
 
 pub settled_step : Laws → LowestIsFree → {D : Type 0} (face : DiskFace D) (tells : Telling) (start : Table) (a : ℕ) (old new : World D) (key : Key) → Invariant tells start old → Step face tells a old new

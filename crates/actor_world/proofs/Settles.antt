@@ -29,7 +29,7 @@ use Rattle.actor_world.specs.Settled.{IsPast, IsSettled}
 use Rattle.actor_world.proofs.CommitSteps.{after_one}
 use Rattle.actor_world.proofs.Frames.{inode_is}
 use Rattle.actor_world.proofs.Holding.{legal_push}
-use Rattle.actor_world.proofs.Lists.{all_push, all_weaker, set-length, the_some}
+use Rattle.actor_world.proofs.Lists.{take_all, all_push, all_weaker, set-length, the_some}
 use Rattle.actor_world.proofs.Looks.{group_same, inode_other, inode_same}
 use Rattle.actor_world.proofs.Picks.{AreLaid, IsLaid, free_picks, picks, picks_all, table_laid}
 use Rattle.actor_world.proofs.Prepares.{LowestIsFree, made_is, prepare_stays}
@@ -342,10 +342,6 @@ pub awaits_to : (o : Option Row) → IsSomeAnd o Awaits → is_awaiting_row o �
 awaits_to None awaits = absurd awaits
 awaits_to (Some row) awaits = rw (eq-eqb row.links 0 awaits.0, eq-eqb row.opens 0 awaits.1)
 
-pub take_whole : (entries : List Entry) → take (length entries) entries ≡ entries
-take_whole [] = refl
-take_whole (entry ∷ entries) = ap (λ es. entry ∷ es) (take_whole entries)
-
 split_at : (entries : List Entry) (i : ℕ) (entry : Entry) → slice_get entries i ≡ Some entry → (rest : List Entry) × (entries ≡ take i entries ++ entry ∷ rest)
 split_at [] i entry at = absurd (none-some entry at)
 split_at (first ∷ entries) zero entry at = (entries, ap (λ e. e ∷ entries) (same_Some first entry at))
@@ -432,7 +428,7 @@ module _ (laws : Laws) (lowest : LowestIsFree) (start : Table) (ok : IsTable sta
 
   pub queue_is_settled : (entries : List Entry) (t : Table) (a : ℕ) → LegalHistory start entries t → AllByRecursion (IsSettled t) (queue_at start entries (length entries) a)
   queue_is_settled entries t a legal =
-      subst (λ es. AllByRecursion (IsSettled t) (queue_from start es a [])) (sym (take_whole entries))
+      subst (λ es. AllByRecursion (IsSettled t) (queue_from start es a [])) (sym (take_all entries))
       (queue_settled a [] [] entries start t (record { leads = refl; held = tt }) legal.leads legal.held tt)
 
   -- a row that awaited after some entries
