@@ -24,6 +24,7 @@ impl<D: Disk> Store<D> {
             (last_answer result) self.old self.new }
         ensures nothing { HasNothing self.old.job (state_of self.old) → self.old.stage ≡ Free → self.new.disk ≡ self.old.disk }
         ensures count { D.fault_count self.old.disk ≤ D.fault_count self.new.disk }
+        ensures sectors { D.sector_count self.new.disk ≡ D.sector_count self.old.disk }
         ensures up { OnOk result (down_count self.new.stage ≡ None) }
         ensures only_down { (fault : ℕ) → result ≡ Err (StoreFault.Down fault) → self.old.stage ≡ Down fault }
         ensures idle { self.new.job ≡ Idle }
@@ -57,6 +58,7 @@ impl<D: Disk> Store<D> {
             (last_answer result) (record self.old { job = Force }) self.new }
         ensures nothing { self.old.queue.items ≡ [] → self.old.stage ≡ Free → self.new.disk ≡ self.old.disk }
         ensures count { D.fault_count self.old.disk ≤ D.fault_count self.new.disk }
+        ensures sectors { D.sector_count self.new.disk ≡ D.sector_count self.old.disk }
         ensures up { OnOk result (down_count self.new.stage ≡ None) }
         ensures only_down { (fault : ℕ) → result ≡ Err (StoreFault.Down fault) → self.old.stage ≡ Down fault }
         ensures idle { self.new.job ≡ Idle }
@@ -92,6 +94,7 @@ impl<D: Disk> Store<D> {
         ensures nothing { self.old.dirty.images ≡ [] → self.old.unflushed ≡ false → self.old.stage ≡ Free
             → self.new.disk ≡ self.old.disk }
         ensures count { D.fault_count self.old.disk ≤ D.fault_count self.new.disk }
+        ensures sectors { D.sector_count self.new.disk ≡ D.sector_count self.old.disk }
         ensures up { OnOk result (down_count self.new.stage ≡ None) }
         ensures only_down { (fault : ℕ) → result ≡ Err (StoreFault.Down fault) → self.old.stage ≡ Down fault }
         ensures idle { self.new.job ≡ Idle }
@@ -121,6 +124,7 @@ impl<D: Disk> Store<D> {
         ensures whole { IsWholeJob D.known D.cells D.sector_count D.arming D.fault_count
             (last_answer result) (record self.old { job = Home }) self.new }
         ensures count { D.fault_count self.old.disk ≤ D.fault_count self.new.disk }
+        ensures sectors { D.sector_count self.new.disk ≡ D.sector_count self.old.disk }
         ensures up { OnOk result (down_count self.new.stage ≡ None) }
         ensures only_down { (fault : ℕ) → result ≡ Err (StoreFault.Down fault) → self.old.stage ≡ Down fault }
         ensures idle { self.new.job ≡ Idle }

@@ -63,7 +63,7 @@ covered_after a b d one two = record {
 }
 
 pub loop-init : goal.loop-init
-loop-init g c = record { goes = goes_job g.D.Disk.known g.D.Disk.cells g.D.Disk.sector_count g.D.Disk.moment g.D.Disk.left_since c.args.self.now c.args.self.now.job c.requires c.requires.sound.job c.requires.sound.asks; goal = refl; faults = omega arith; rises = rises_none (covers_of c.args.self.now.job) (state_of c.args.self.now); back = λ is. stays_none (state_of c.args.self.now); home = λ is. stays_none (state_of c.args.self.now); at_end = λ is free ends. refl; arming = IsAfterWrites-none (g.D.Disk.arming c.args.self.now.disk); steps = (0, refl); up = λ fault is. is; nothing = λ none free. refl; down = λ fault is. refl }
+loop-init g c = record { goes = goes_job g.D.Disk.known g.D.Disk.cells g.D.Disk.sector_count g.D.Disk.moment g.D.Disk.left_since c.args.self.now c.args.self.now.job c.requires c.requires.sound.job c.requires.sound.asks; goal = refl; faults = omega arith; sectors = refl; rises = rises_none (covers_of c.args.self.now.job) (state_of c.args.self.now); back = λ is. stays_none (state_of c.args.self.now); home = λ is. stays_none (state_of c.args.self.now); at_end = λ is free ends. refl; arming = IsAfterWrites-none (g.D.Disk.arming c.args.self.now.disk); steps = (0, refl); up = λ fault is. is; nothing = λ none free. refl; down = λ fault is. refl }
 
 pub returns-in_err-advance-clause-goes : goal.returns-in_err-advance-clause-goes
 returns-in_err-advance-clause-goes g c =
@@ -92,6 +92,7 @@ loop-preserved g c =
       goes = goes_both g.D.Disk.known g.D.Disk.cells g.D.Disk.sector_count g.D.Disk.moment g.D.Disk.left_since was now new c.loop.invariant.goes c.advance.ensures.goes;
       goal = step_goal g.D.Disk.known g.D.Disk.cells g.D.Disk.sector_count g.D.Disk.arming g.D.Disk.fault_count size now new sound step ∙ c.loop.invariant.goal;
       faults = omega (arith, c.loop.invariant.faults, step.done.count);
+      sectors = step.done.size ∙ c.loop.invariant.sectors;
       steps = one_more g.D.Disk.known g.D.Disk.cells g.D.Disk.sector_count g.D.Disk.arming g.D.Disk.fault_count was now new c.loop.invariant.steps step;
       nothing = λ none free.
           let same : now ≡ was = c.loop.invariant.nothing none free in
@@ -142,6 +143,12 @@ returns-in_err-advance-clause-count g c =
 
 pub returns-in-Ended-clause-count : goal.returns-in-Ended-clause-count
 returns-in-Ended-clause-count g c = omega (arith, c.loop.invariant.faults, c.in_ok-advance.ensures.step.done.count)
+
+pub returns-in_err-advance-clause-sectors : goal.returns-in_err-advance-clause-sectors
+returns-in_err-advance-clause-sectors g c = c.in_err-advance.ensures.step.done.size ∙ c.loop.invariant.sectors
+
+pub returns-in-Ended-clause-sectors : goal.returns-in-Ended-clause-sectors
+returns-in-Ended-clause-sectors g c = c.in_ok-advance.ensures.step.done.size ∙ c.loop.invariant.sectors
 
 pub returns-in-Ended-clause-up : goal.returns-in-Ended-clause-up
 returns-in-Ended-clause-up g c = none_down c.advance.new.self.stage (up_after g.D.Disk.known g.D.Disk.cells g.D.Disk.sector_count g.D.Disk.arming g.D.Disk.fault_count _ c.loop.self c.advance.new.self c.in_ok-advance.ensures.step)

@@ -13,6 +13,7 @@ invariant-loop g l = record {
   goes : Goes g.D.Disk.known g.D.Disk.cells g.D.Disk.sector_count g.D.Disk.moment g.D.Disk.left_since l.fn.self l.self;
   goal : goal_of l.self.job ≡ goal_of l.fn.self.job;
   faults : g.D.Disk.fault_count l.fn.self.disk ≤ g.D.Disk.fault_count l.self.disk;
+  sectors : g.D.Disk.sector_count l.self.disk ≡ g.D.Disk.sector_count l.fn.self.disk;
   rises : Rises (covers_of l.fn.self.job) (covers_of l.self.job) (state_of l.fn.self) (state_of l.self);
   back : l.fn.self.job ≡ WriteBack → PositionsStay (state_of l.fn.self) (state_of l.self);
   home : l.fn.self.job ≡ Home → PositionsStay (state_of l.fn.self) (state_of l.self);
