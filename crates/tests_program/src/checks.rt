@@ -1,7 +1,7 @@
 // Checks of images: what is written of each, the exit status, and that the image is as it was.
 
 use crate::images::{Change, apply, change, clear, first_file_image, made_image, sectors_of};
-use crate::runs::{disk_with, no_disk, run_words};
+use crate::runs::{disk_with, run_words};
 use life_bytes::Sector;
 use life_cli::exit_code;
 use std::alloc::Global;
