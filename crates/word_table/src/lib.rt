@@ -14,10 +14,11 @@
 //! An open that finds no such inode does not decide anything: it says what it saw, and whoever takes the group's lock
 //! decides. A close that gives up the last hold on an inode without links hands out a duty, to have the inode freed.
 //!
-//! Contracts see what each session and keeper knows (`Known`): the pins that it has, and the log of all words that it loaded,
-//! found or left, the newest first. Each call says what comes to that, so what it saw can't be made up. What ties all of
-//! these to the words is the rule of the table (`specs/Rule.antt`), which holds between any two steps of any threads. The
-//! place of a word is the sector in which its inode stands.
+//! Contracts see what each session and keeper knows (`Known`): the pins that it has, and the log of the words that it loaded,
+//! found or left, the newest first. The word that an open leaves alone is not in it: the pin tells of that. Each call says
+//! what comes to the log, so what it saw can't be made up. What ties all of these to the words is the rule of the table
+//! (`specs/Rule.antt`), which holds between any two steps of any threads. The place of a word is the sector in which its inode
+//! stands.
 #![tactic(auto)]
 
 mod cache;

@@ -19,7 +19,8 @@ use std::marker::Model;
 
 /// Who opens and closes inodes in one thread at a time.
 ///
-/// Contracts see the cache that it belongs to and what it knows: its pins, and each word that it loaded or found.
+/// Contracts see the cache that it belongs to and what it knows: its pins, and each word that it loaded, found, or left by a
+/// release.
 #[derive(Drop)]
 pub struct Session {
     pub(crate) seat: WordSeat,
