@@ -60,7 +60,7 @@ count_of tells old new true Rest (commit ∷ commits) entry more f is = ap suc (
 count_of tells old new false Rest commits entry more f is = f commits is
 
 -- as many commits as changes
-commits_count : (tells : Telling) (h : History) (entries : List Entry) (froms : List ℕ) (commits : List Commit) → CommitsOf tells h entries froms commits → length commits ≡ length (changes entries)
+pub commits_count : (tells : Telling) (h : History) (entries : List Entry) (froms : List ℕ) (commits : List Commit) → CommitsOf tells h entries froms commits → length commits ≡ length (changes entries)
 commits_count tells h [] froms commits is = ap (λ (cs : List Commit). length cs) is
 commits_count tells h (entry ∷ entries) [] commits is = absurd is
 commits_count tells h (entry ∷ entries) (begin ∷ froms) commits is =

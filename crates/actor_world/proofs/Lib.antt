@@ -19,6 +19,8 @@ mod Lists
 mod LiveWords
 mod LockSteps
 mod Locks
+mod LogEnds
+mod LogLines
 mod LogLock
 mod Looks
 mod Mounted

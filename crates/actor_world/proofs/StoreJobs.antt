@@ -41,7 +41,7 @@ is_down (stay_down fault) = true
 is_down _ = false
 
 -- what is so of no action at rest but those that write or flush what is home, end, or begin a record or a cover
-within_is : (f : Action → Bool) (end : ℕ) (action : Action) → f end_positions ≡ false → f action ≡ false → f (within_positions end action) ≡ false
+pub within_is : (f : Action → Bool) (end : ℕ) (action : Action) → f end_positions ≡ false → f action ≡ false → f (within_positions end action) ≡ false
 within_is f end action past is = elim (nat_lt (2 ^ 63) end) as (λ b. f (if b then end_positions else action) ≡ false) [ true ↦ past | false ↦ is ]
 
 -- a test that no action at rest meets, but perhaps the write of a record
@@ -72,7 +72,7 @@ rest_is f none is WriteBack s = home_is f none s.dirty s.unflushed end_job none.
 rest_is f none is Nothing s = none.end
 rest_is f none is Idle s = none.end
 
-rest_up : (going : Job) (s : State) → is_down (action_at_rest going s) ≡ false
+pub rest_up : (going : Job) (s : State) → is_down (action_at_rest going s) ≡ false
 rest_up going s = rest_is is_down (record { past = refl; end = refl; home = λ image rest. refl; flushed = refl; cover = refl }) refl going s
 
 down_stage : (stage : Stage) (going : Job) (s : State) → is_down (action_at stage going s) ≡ true → IsAtRest stage
@@ -87,7 +87,7 @@ at_rest stage free = subst IsAtRest (sym free) tt
 
 -- ---- a job that ends
 
-ended_more : Ended ≡ More → ⊥
+pub ended_more : Ended ≡ More → ⊥
 ended_more is = cc
 
 more_ended : More ≡ Ended → ⊥
@@ -219,7 +219,7 @@ turned_goal : (list : List Commit) (s : State) → goal_of (turned_force list s)
 turned_goal [] s = refl
 turned_goal (commit ∷ list) s = elim (has_room s (length s.batch)) as (λ b. goal_of (if b then Force else Clear) ≡ Force) [ true ↦ refl | false ↦ refl ]
 
-rest_goal : (going : Job) (s : State) → goal_of (job_at_rest going s) ≡ goal_of going
+pub rest_goal : (going : Job) (s : State) → goal_of (job_at_rest going s) ≡ goal_of going
 rest_goal Force s = turned_goal s.list s
 rest_goal Clear s = refl
 rest_goal Home s = refl

@@ -62,7 +62,7 @@ can_make laws start h m a q _ at inv there held = tt
 queues_of : Memory → List (List Key)
 queues_of m = map (λ (actor : Actor). actor.queue) m.actors
 
-abbrev lines_in : History → Memory → LinesState
+abbrev pub lines_in : History → Memory → LinesState
 lines_in h m = lines_at h.table (map (λ (actor : Actor). actor.queue) m.actors) (length (changes h.entries))
 
 line_facts : AllLaws → OneReply → (start : Table) (h : History) (m : Memory) (a : ℕ) (made : Call) (at : Place) (begin : ℕ) (q : List Key) → Within start h m
@@ -81,7 +81,7 @@ line_facts all one start h m a made at begin q inv actor_is low right group = re
       ∙ ap due_number (close_due_not (first_key q) key at (subst (λ c. stands_at c at ≡ true) is right.stands)));
 }
 
-changes_push : (entries : List Entry) (entry : Entry) → length (changes (entries ++ entry ∷ [])) ≡ length (changes entries) + (if is_change entry.event then 1 else 0)
+pub changes_push : (entries : List Entry) (entry : Entry) → length (changes (entries ++ entry ∷ [])) ≡ length (changes entries) + (if is_change entry.event then 1 else 0)
 changes_push [] entry = elim (is_change entry.event) as (λ b. length (if b then entry ∷ [] else []) ≡ 0 + (if b then 1 else 0)) [ true ↦ omega arith | false ↦ omega arith ]
 changes_push (first ∷ entries) entry =
     let more = changes_push entries entry in
@@ -90,7 +90,7 @@ changes_push (first ∷ entries) entry =
       | false ↦ more
     ]
 
-changes_told : (h : History) (a begin : ℕ) (event : Option Event) → length (changes (told_if a begin event h).entries) ≡ changes_after (length (changes h.entries)) event
+pub changes_told : (h : History) (a begin : ℕ) (event : Option Event) → length (changes (told_if a begin event h).entries) ≡ changes_after (length (changes h.entries)) event
 changes_told h a begin None = refl
 changes_told h a begin (Some event) = changes_push h.entries (record { actor = a; event = event })
 
@@ -193,7 +193,7 @@ first_rest a call.Gc s group = refl
 first_rest a (call.FlushInodes g) s group = refl
 first_rest a (call.Reclaim g) s group = refl
 
-begun_lines : {D : Type 0} (a : ℕ) (made : Call) (old new : World D) → IsBegun a made old new → lines_state new ≡ lines_state old
+pub begun_lines : {D : Type 0} (a : ℕ) (made : Call) (old new : World D) → IsBegun a made old new → lines_state new ≡ lines_state old
 begun_lines a made old new b =
     let x : Actor = record { doing = Some (beginning made old.history); queue = (actor_at old.memory a).queue } in
     let queue : (λ (actor : Actor). actor.queue) (actor_at old.memory a) ≡ slice_index_or (map (λ (actor : Actor). actor.queue) old.memory.actors) a [] =

@@ -14,3 +14,4 @@ pub mod Settled
 pub mod Bounds
 pub mod Houses
 pub mod WholeCalls
+pub mod LogCalls

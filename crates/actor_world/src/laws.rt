@@ -35,6 +35,7 @@ ghost use Rattle.actor_world.specs.Invariant.{Invariant, HasEntry, KeysAscend, u
 ghost use Rattle.actor_world.specs.Houses.{HasNoDirty, IsReclaimed};
 ghost use Rattle.actor_world.specs.Lines.{line};
 ghost use Rattle.actor_world.specs.WholeCalls.{IsWholeCall, lines_state};
+ghost use Rattle.actor_world.specs.LogCalls.{GoesWell, LogAnswers};
 ghost use Rattle.actor_world.specs.Mounted.{IsMounted};
 ghost use Rattle.actor_world.specs.Settled.{IsSettled};
 ghost use Rattle.life_table.specs.declared.types.Reply.{Reply as AnyReply};
@@ -228,6 +229,27 @@ pub fn whole_calls_are_lines<D: Disk, T: Tells>()
         → is_log_call made ≡ false → IsWholeCall face T.tells a made n old new
         → HasEntry new.history.entries new.history.froms a (length old.history.entries) made (Some (line a made (lines_state old)).reply)
         × (lines_state new ≡ (line a made (lines_state old)).state) }
+{
+    each_call_has_one_reply();
+    tables_stay_well_formed();
+    rows_are_within_limits();
+    holders_have_rows();
+    lowest_keys_are_least();
+    changes_pass_over_holds();
+}
+
+/// A law: a whole sync or home leaves the table, the queues of gc and the number of changes. Where the store was not down, no
+/// call of the disk failed and positions are left, it is answered as whole lines say; else it may be answered a fault, each of
+/// which has its cause.
+pub fn whole_syncs_are_lines<D: Disk, T: Tells>()
+    ensures lines { (face : DiskFace D) (start : Table) (a n : ℕ) (made : AnyCall) (old new : World D) → Invariant T.tells start old
+        → is_log_call made ≡ true → IsWholeCall face T.tells a made n old new → GoesWell face old new
+        → HasEntry new.history.entries new.history.froms a (length old.history.entries) made (Some (line a made (lines_state old)).reply)
+        × (lines_state new ≡ (line a made (lines_state old)).state) }
+    ensures answers { (face : DiskFace D) (start : Table) (a n : ℕ) (made : AnyCall) (old new : World D) → Invariant T.tells start old
+        → is_log_call made ≡ true → IsWholeCall face T.tells a made n old new
+        → (answer : AnyReply) × HasEntry new.history.entries new.history.froms a (length old.history.entries) made (Some answer)
+        × LogAnswers face made old new answer × (lines_state new ≡ lines_state old) }
 {
     each_call_has_one_reply();
     tables_stay_well_formed();

@@ -11,7 +11,7 @@ pub use laws::{
     flush_and_reclaim_clean, frees_are_exact, holders_never_wait, locks_are_given_back,
     mounted_worlds_are_right, opens_begin_unlocked, right_worlds_have_one_history,
     settled_keys_stay_stale, steps_append_one_entry, steps_are_of_four_kinds,
-    steps_keep_the_invariant, whole_calls_are_lines, whole_calls_end,
+    steps_keep_the_invariant, whole_calls_are_lines, whole_calls_end, whole_syncs_are_lines,
 };
 pub use memory::{Actor, Doing, GroupCache, Memory, Place, Residence, Slot};
 pub use rows::rows_run;
