@@ -66,7 +66,7 @@ free_parts old new true stays same = record {
 }
 free_parts old new false stays same = all_parts old new stays
 
-or_true : (b : Bool) → (b || true) ≡ true
+pub or_true : (b : Bool) → (b || true) ≡ true
 or_true true = refl
 or_true false = refl
 
@@ -74,11 +74,11 @@ some_or_none : (o : Option (List Bool)) (none : Bool) → is_none o ≡ none →
 some_or_none None none e = ap (λ (b : Bool). bitmap_places (cond b [] parts)) e
 some_or_none (Some x) none e = ap (λ (b : Bool). bitmap_places (cond b [] parts)) e
 
-page_range : (layouts : Layouts) (group page : ℕ) → page ≡ page_of layouts group → range_with_len (BLOCK_SECTORS * page) BLOCK_SECTORS ≡ page_places layouts group
+pub page_range : (layouts : Layouts) (group page : ℕ) → page ≡ page_of layouts group → range_with_len (BLOCK_SECTORS * page) BLOCK_SECTORS ≡ page_places layouts group
 unfolding page_place
 page_range layouts group page e = ap (λ (n : ℕ). range_with_len (BLOCK_SECTORS * n) BLOCK_SECTORS) e
 
-free_places : (s : StateValue) (d : Delta) (layouts : Layouts) (none : Bool) → s.page ≡ page_of layouts s.group → d.chunk ≡ None → is_some d.space.records ≡ true → is_none d.space.free ≡ none
+pub free_places : (s : StateValue) (d : Delta) (layouts : Layouts) (none : Bool) → s.page ≡ page_of layouts s.group → d.chunk ≡ None → is_some d.space.records ≡ true → is_none d.space.free ≡ none
     → touched s.page d ≡ header_place ∷ (bitmap_places (cond none [] parts) ++ (page_places layouts s.group ++ own_touched d.agino d.prior))
 free_places s d layouts none page chunk records free =
     touched_is s.page d d.head d.prior d.space None refl refl refl chunk

@@ -30,3 +30,8 @@ pub mod Shown
 pub mod Relinking
 pub mod Repointed
 pub mod OrphanKeys
+pub mod OneChunkMore
+pub mod Added
+pub mod Numbers
+pub mod Making
+pub mod UnusedChunks

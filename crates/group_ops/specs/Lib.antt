@@ -12,3 +12,4 @@ pub mod Orphans
 pub mod Staging
 pub mod Keeping
 pub mod Calls
+pub mod Creating

@@ -5,6 +5,7 @@
 mod blocks;
 mod buffers;
 mod change;
+mod create;
 mod delta;
 mod fault;
 mod free;
@@ -27,6 +28,6 @@ pub use change::Change;
 pub use delta::{Delta, Head, Prior, Relink};
 pub use fault::LoadFault;
 pub use load::load_group;
-pub use refusals::{CutFault, GrowFault, LinkFault, UnlinkFault};
+pub use refusals::{CreateFault, CutFault, GrowFault, LinkFault, UnlinkFault};
 pub use rows::RowLine;
 pub use state::GroupState;

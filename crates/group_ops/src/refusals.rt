@@ -4,6 +4,24 @@ ghost use Rattle.std.specs.Prelude.{◌≡◌};
 
 use life_ports::NoMemory;
 
+/// Why a create is refused.
+#[derive(Clone, Copy, Debug, PartialEq, Eq)]
+pub enum CreateFault {
+    /// No number of the group is free, and no chunk can be added.
+    NoInodes,
+    NoMemory,
+}
+
+impl From<NoMemory> for CreateFault {
+    ghost use Rattle.group_ops.specs.declared.refusals.CreateFault.TheVariants as fault;
+
+    ghost from_gives = { λ _ e. e ≡ fault.NoMemory };
+
+    fn from(_: NoMemory) -> CreateFault {
+        CreateFault::NoMemory
+    }
+}
+
 /// Why a link is refused.
 #[derive(Clone, Copy, Debug, PartialEq, Eq)]
 pub enum LinkFault {
