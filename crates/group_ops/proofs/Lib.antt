@@ -35,3 +35,5 @@ pub mod Added
 pub mod Numbers
 pub mod Making
 pub mod UnusedChunks
+pub mod Owned
+pub mod Lawful

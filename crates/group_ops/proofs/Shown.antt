@@ -142,7 +142,7 @@ stands forks group generation next uuid (Some row) wide allowed = record {
   free = λ dead. cc;
 }
 
-core_read : CoresAreRead → ForksAreRead → (group agino generation next : ℕ) (uuid bytes : List ℕ) (row : Option Row) → length uuid ≡ 16 → IsCore (core_for generation row next)
+pub core_read : CoresAreRead → ForksAreRead → (group agino generation next : ℕ) (uuid bytes : List ℕ) (row : Option Row) → length uuid ≡ 16 → IsCore (core_for generation row next)
     → bytes ≡ inode_encoding (core_for generation row next) (number_in group agino) uuid group (row_blocks row) → core_in bytes ≡ core_for generation row next
 unfolding inode_encoding
 core_read cores forks group agino generation next uuid bytes row wide allowed same =
@@ -182,7 +182,7 @@ next_buffered : Lower → (s : StateValue) (t : Table) (layouts : Layouts) (agin
 next_buffered l s t layouts agino inode None shape inside is there has = absurd has
 next_buffered l s t layouts agino inode (Some sector) shape inside is there has = next_of_sector l s t layouts agino inode sector shape inside is there has
 
-clean_buffer : (b : Option Sector) (k : Option Kept) (bytes : List ℕ) → k ≡ None → IsSomeAnd b (λ sector. is_dirty k ≡ false → sector.bytes ≡ bytes) → IsSomeAnd b (λ sector. sector.bytes ≡ bytes)
+pub clean_buffer : (b : Option Sector) (k : Option Kept) (bytes : List ℕ) → k ≡ None → IsSomeAnd b (λ sector. is_dirty k ≡ false → sector.bytes ≡ bytes) → IsSomeAnd b (λ sector. sector.bytes ≡ bytes)
 clean_buffer None k bytes out has = has
 clean_buffer (Some sector) k bytes out has = has (ap is_dirty out)
 

@@ -13,3 +13,4 @@ pub mod Staging
 pub mod Keeping
 pub mod Calls
 pub mod Creating
+pub mod OwnTable

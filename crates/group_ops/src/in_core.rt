@@ -77,7 +77,7 @@ fn put_dirty(cache: &mut InodeCache, agino: u32, inode: Incore)
 
 impl GroupState {
     /// Makes room for one change. Where there is no memory, nothing but the room may have changed either.
-    pub fn reserve(&mut self) -> Result<(), NoMemory>
+    pub(crate) fn make_room(&mut self) -> Result<(), NoMemory>
         ensures same { self.new ≡ with_room self.old self.new.room }
         ensures kept { self.old.room ≤ self.new.room }
         ensures room { OnOk result (1 ≤ self.new.room) }
@@ -88,7 +88,7 @@ impl GroupState {
     }
 
     /// Makes a change, for which there has to be room. It takes no memory.
-    pub fn apply(&mut self, change: Change)
+    pub(crate) fn make_change(&mut self, change: Change)
         requires room { 1 ≤ self.old.room }
         requires leads { LeadsOn self.old change.delta }
         ensures changed { self.new ≡ with_room (changed_state self.old change.delta) self.new.room }

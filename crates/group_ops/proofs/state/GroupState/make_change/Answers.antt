@@ -10,7 +10,7 @@ use Rattle.group_ops.proofs.Applying.{chunk_long, chunk_whole, prior_ascends, pr
 use Rattle.group_ops.proofs.Incores.{Laws}
 use Rattle.group_ops.proofs.Leading.{changed_ascend, changed_parts, lead_on, own_right, own_small, prior_fits}
 use Rattle.group_ops.proofs.Setting.{AreWhole}
-use Rattle.group_ops.proofs.state.GroupState.apply.Goals as goal
+use Rattle.group_ops.proofs.state.GroupState.make_change.Goals as goal
 
 pub put_prior-requires-clause-fits : goal.put_prior-requires-clause-fits
 put_prior-requires-clause-fits c =
