@@ -37,3 +37,4 @@ pub mod Making
 pub mod UnusedChunks
 pub mod Owned
 pub mod Lawful
+pub mod Flushed

@@ -14,3 +14,4 @@ pub mod Keeping
 pub mod Calls
 pub mod Creating
 pub mod OwnTable
+pub mod Flushing

@@ -1,11 +1,16 @@
 //! The buffers of a group's inodes.
 
-ghost use Rattle.std.specs.Prelude.{◌≡◌, ◌≢◌, ◌≤◌, ◌<◌, ◌+◌, ◌%◌, ℕ, IfNone, IfSome, length, slice_get, slice_index_or, slice_set, vec_capacity, vec_len};
+ghost use Rattle.std.specs.Prelude.{◌≡◌, ◌≢◌, ◌≤◌, ◌<◌, ◌+◌, ◌*◌, ◌%◌, ℕ, All, IfNone, IfSome, IsSome, length, slice_get, slice_index_or, slice_set, vec_capacity, vec_len};
+ghost use Rattle.std.specs.Option.{option_map};
 ghost use Rattle.life_limits.specs.declared.TheConstants.{CHUNK_INODES, GROUP_NUMBERS};
+ghost use Rattle.inode_cache.specs.declared.inode.TheConstants.{CLUSTER_INODES};
+ghost use Rattle.inode_cache.specs.Flush.{IsFlushed};
 ghost use Rattle.life_table.specs.Table.{start_of};
 ghost use Rattle.group_ops.specs.Buffers.{AreBuffers, Buffers, BuffersAscend, buffer_in};
 ghost use Rattle.group_ops.specs.Changes.{insert_buffers, set_buffer, with_chunk};
+ghost use Rattle.group_ops.specs.Flushing.{flushed_in, starts_of};
 
+use inode_cache::{CLUSTER_INODES, InodeCache};
 use life_bytes::Sector;
 use life_limits::CHUNK_INODES;
 use std::marker::Model;
@@ -143,4 +148,51 @@ pub(crate) fn add_any(chunks: &mut Vec<ChunkBuffers>, new: Option<ChunkBuffers>)
     if let Some(new) = new {
         add_chunk(chunks, new);
     }
+}
+
+/// Flushes a cluster whose buffers stand one behind the other from a place on.
+fn flush_part(cache: &mut InodeCache, cluster: u32, sectors: &mut [Sector], first: usize)
+    requires cluster { cluster * CLUSTER_INODES < GROUP_NUMBERS }
+    requires within { first + CLUSTER_INODES ≤ length sectors.old }
+    ensures cache { IsFlushed cluster cache.old cache.new }
+    ensures length { length sectors.new ≡ length sectors.old }
+    ensures sectors { (start k : ℕ) → start + first ≡ cluster * CLUSTER_INODES
+        → slice_get sectors.new k ≡ option_map (flushed_in cluster cache.old (start + k)) (slice_get sectors.old k) }
+{
+    let end = first + CLUSTER_INODES as usize;
+    cache.flush_cluster(cluster, &mut sectors[first..end]);
+}
+
+impl ChunkBuffers {
+    /// Flushes a cluster of the chunk's inodes.
+    fn flush(&mut self, cache: &mut InodeCache, cluster: u32)
+        requires small { cluster * CLUSTER_INODES < GROUP_NUMBERS }
+        requires from { self.old.start ≤ cluster * CLUSTER_INODES }
+        requires below { cluster * CLUSTER_INODES < self.old.start + CHUNK_INODES }
+        ensures cache { IsFlushed cluster cache.old cache.new }
+        ensures start { self.new.start ≡ self.old.start }
+        ensures sectors { (k : ℕ) → slice_get self.new.sectors k ≡ option_map (flushed_in cluster cache.old (self.old.start + k)) (slice_get self.old.sectors k) }
+    {
+        let first = cluster * CLUSTER_INODES - self.start;
+        flush_part(cache, cluster, &mut self.sectors, first as usize);
+    }
+}
+
+/// Flushes a cluster of a group's inodes, which a chunk has.
+pub(crate) fn flush_buffers(cache: &mut InodeCache, chunks: &mut Vec<ChunkBuffers>, cluster: u32)
+    requires ascend { BuffersAscend chunks.old.items }
+    requires whole { All (λ (chunk : Buffers). AreBuffers chunk.start chunk.sectors) chunks.old.items }
+    requires small { cluster * CLUSTER_INODES < GROUP_NUMBERS }
+    requires there { IsSome (buffer_in chunks.old.items (cluster * CLUSTER_INODES)) }
+    ensures cache { IsFlushed cluster cache.old cache.new }
+    ensures starts { starts_of chunks.new.items ≡ starts_of chunks.old.items }
+    ensures whole { All (λ (chunk : Buffers). AreBuffers chunk.start chunk.sectors) chunks.new.items }
+    ensures buffers { (agino : ℕ) → buffer_in chunks.new.items agino ≡ option_map (flushed_in cluster cache.old agino) (buffer_in chunks.old.items agino) }
+    ensures capacity { vec_capacity chunks.new ≡ vec_capacity chunks.old }
+{
+    let Some(place) = place_of(chunks.as_slice(), cluster * CLUSTER_INODES) else {
+        unreachable!()
+    };
+    chunks[place].flush(cache, cluster);
+    chunks[place].hold();
 }

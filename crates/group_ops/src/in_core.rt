@@ -7,7 +7,7 @@ ghost use Rattle.life_table.specs.declared.table.Inode.{Inode};
 ghost use Rattle.life_table.specs.declared.table.Table.{Table};
 ghost use Rattle.life_table.specs.Table.{group_at, inode_in};
 ghost use Rattle.sound_image.specs.Encoding.{Layouts};
-ghost use Rattle.inode_cache.specs.Caches.{dirty, with_incore};
+ghost use Rattle.inode_cache.specs.Caches.{dirty, is_dirty, with_incore};
 ghost use Rattle.inode_cache.specs.Inodes.{IsIncore};
 ghost use Rattle.group_ops.specs.Buffers.{BuffersAscend};
 ghost use Rattle.group_ops.specs.Changes.{FitsPrior, changed_state, with_head, with_prior, with_prior_buffer, with_room};
@@ -120,6 +120,15 @@ impl GroupState {
         ensures none { IfNone result ((k : ℕ) → from ≤ k → is_some (kept_at self.now k) ≡ false) }
     {
         self.cache.first_in_core(from)
+    }
+
+    /// The least number from one on whose inode is in core and dirty.
+    pub(crate) fn first_dirty(&self, from: u32) -> Option<u32>
+        ensures found { IfSome result (λ n. (from ≤ n) × (is_dirty (kept_at self.now n) ≡ true)) }
+        ensures least { IfSome result (λ n. (k : ℕ) → from ≤ k → k < n → is_dirty (kept_at self.now k) ≡ false) }
+        ensures none { IfNone result ((k : ℕ) → from ≤ k → is_dirty (kept_at self.now k) ≡ false) }
+    {
+        self.cache.first_dirty(from)
     }
 
     /// Whether the inode of a number, which has to be in core, is as its buffer has it.

@@ -8,6 +8,7 @@ mod change;
 mod create;
 mod delta;
 mod fault;
+mod flush;
 mod free;
 mod group_table;
 mod in_core;
