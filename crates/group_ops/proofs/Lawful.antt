@@ -1,5 +1,5 @@
 -- What a change makes of the state's own table.
-use Rattle.std.proofs.Common.{◌≡◌, ◌≢◌, ◌<◌, ℕ, zero, suc, Bool, true, false, List, [], ◌∷◌, Option, None, Some, length, refl, ap, sym, ◌∙◌, subst, arith, inl, inr}
+use Rattle.std.proofs.Common.{◌≡◌, ◌<◌, ℕ, zero, suc, Bool, true, false, List, [], ◌∷◌, Option, None, Some, length, refl, ap, sym, ◌∙◌, subst, arith, inl, inr}
 use Rattle.std.specs.Prelude.{IfSome, IsSomeAnd, replicate, slice_set}
 use Rattle.std.specs.Ordering.{nat_cmp}
 use Rattle.std.specs.FinMap as finmap
@@ -12,7 +12,6 @@ use Rattle.inode_cache.specs.Caches.{dirty}
 use Rattle.life_table.specs.declared.key.Key.{Key}
 use Rattle.life_table.specs.declared.types.Call.{Call}
 use Rattle.life_table.specs.declared.types.Reply.{Reply}
-use Rattle.life_table.specs.declared.types.Event.{Event}
 use Rattle.life_table.specs.declared.types.Event.TheVariants.{Called, Freed}
 use Rattle.life_table.specs.declared.table.Table.{Table}
 use Rattle.life_table.specs.History.{closed}

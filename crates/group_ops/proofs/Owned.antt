@@ -1,13 +1,12 @@
 -- The table that a state has is that of which it is the group.
 use Rattle.std.proofs.Common.{◌≡◌, ◌<◌, ◌≤◌, ◌+◌, ◌%◌, ℕ, zero, suc, true, List, [], ◌∷◌, Option, None, Some, length, map, get_or, refl, ap, sym, ◌∙◌, subst, arith, zero-add}
-use Rattle.std.specs.Prelude.{IfSome, IsSomeAnd, slice_get}
-use Rattle.std.specs.List.{AllByRecursion, flat_map, range_with_len}
+use Rattle.std.specs.Prelude.{IfSome, IsSomeAnd}
+use Rattle.std.specs.List.{flat_map, range_with_len}
 use Rattle.std.proofs.lemmas.List.{get_or-map, length-map, same_lists}
 use Rattle.std.proofs.lemmas.List.FromFn.{get_or-map-range_with_len, length-map-range_with_len}
 use Rattle.std.proofs.lemmas.Option.{slice_get-get_or}
 use Rattle.life_limits.specs.declared.TheConstants.{BUCKETS, CHUNK_INODES, MAX_EXTENTS, MAX_GROUPS}
 use Rattle.life_bytes.specs.declared.sector.Sector.{Sector}
-use Rattle.geometry.specs.declared.shape.Geometry.{Geometry}
 use Rattle.geometry.specs.Shape.{IsGeometry}
 use Rattle.inode_core.specs.declared.shape.Core.{Core}
 use Rattle.inode_core.specs.Cores.{IsCore}
@@ -15,9 +14,7 @@ use Rattle.inode_core.specs.Reading.{core_in}
 use Rattle.extent_fork.specs.declared.extent.Extent.{Extent}
 use Rattle.extent_fork.specs.Reading.{runs_in}
 use Rattle.extent_fork.specs.Runs.{blocks_of, runs}
-use Rattle.inode_cache.specs.declared.inode.Incore.{Incore}
 use Rattle.inode_cache.specs.declared.inode.Kept.{Kept}
-use Rattle.inode_cache.specs.Caches.{is_dirty}
 use Rattle.inode_cache.specs.Inodes.{incore_encoding}
 use Rattle.life_table.specs.declared.types.Row.{Row}
 use Rattle.life_table.specs.declared.table.Inode.{Inode}
@@ -26,12 +23,12 @@ use Rattle.life_table.specs.declared.table.Table.{Table}
 use Rattle.life_table.specs.History.{closed, closed_inode, closed_row}
 use Rattle.life_table.specs.Space.{row_blocks}
 use Rattle.life_table.specs.Table.{Group, empty_table, group_at, inode_in, map_chunk, map_group, with_group}
-use Rattle.life_table.specs.WellFormed.{ChunksAscend, IsChunk, IsRow}
+use Rattle.life_table.specs.WellFormed.{ChunksAscend, IsChunk}
 use Rattle.sound_image.specs.Encoding.{Layouts, bucket_list, core_for, next_in}
 use Rattle.group_frame.specs.Frames.{alone}
 use Rattle.group_ops.specs.Buffers.{Buffers, buffer_in}
 use Rattle.group_ops.specs.Changes.{with_room}
-use Rattle.group_ops.specs.OwnTable.{chunk_seen, chunks_seen, inode_by, inode_seen, incore_in_buffer, incore_read, incore_seen, own_table, row_by_use}
+use Rattle.group_ops.specs.OwnTable.{chunk_seen, chunks_seen, inode_by, inode_seen, incore_in_buffer, incore_read, incore_seen, own_table}
 use Rattle.group_ops.specs.Represents.{IsGroupOf, incore_for}
 use Rattle.group_ops.specs.Telling.{HasRowAt}
 use Rattle.group_ops.specs.Values.{StateValue, kept_at}

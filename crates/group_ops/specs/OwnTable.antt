@@ -1,6 +1,6 @@
 -- The table that a state has, read from its inodes: a row, and the generation of a free number, is that of the inode in core where there is one, and that of
 -- the buffer otherwise. It has the chunks of the state's group alone, and nobody holds a row of it.
-use Rattle.std.specs.Prelude.{◌≡◌, ◌+◌, ℕ, List, [], Bool, true, false, Option, None, Some, map}
+use Rattle.std.specs.Prelude.{◌≡◌, ◌+◌, ℕ, List, Bool, true, false, Option, None, Some, map}
 use Rattle.std.specs.List.{flat_map, range_with_len}
 use Rattle.life_limits.specs.declared.TheConstants.{CHUNK_INODES}
 use Rattle.life_bytes.specs.declared.sector.Sector.{Sector}

@@ -1,4 +1,4 @@
-use Rattle.std.proofs.Common.{◌*◌, [], sym, subst, length, List, ◌<◌, arith}
+use Rattle.std.proofs.Common.{◌*◌, [], subst, length, List, ◌<◌, arith}
 use Rattle.group_ops.specs.Buffers.{Buffers}
 use Rattle.group_ops.proofs.Finding.{buffer-none}
 use Rattle.group_ops.proofs.Flushed.{found_flushed, found_start, gone_some, starts_found, whole_found}

@@ -1,4 +1,4 @@
-use Rattle.std.proofs.Common.{◌≡◌, ◌<◌, ◌/◌, refl, arith}
+use Rattle.std.proofs.Common.{◌/◌, refl, arith}
 use Rattle.group_ops.proofs.Flushed.{all_flushed, below_inside, below_represents, below_shape, dirty_small, dirty_there, flush_represents, flushed_clean, more_flushed, none_flushed, sector_is}
 use Rattle.group_ops.proofs.state.GroupState.flush_all.Goals as goal
 
