@@ -1,0 +1,5 @@
+mod Rows
+mod Due
+mod Listed
+mod Counts
+mod Recovers
