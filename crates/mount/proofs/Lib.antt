@@ -1,0 +1,11 @@
+pub mod Firsts
+pub mod Encodes
+pub mod Replays
+pub mod Prefixes
+pub mod Going
+pub mod Ending
+pub mod Bringing
+pub mod Used
+pub mod Recovers
+pub mod Results
+pub mod Ends

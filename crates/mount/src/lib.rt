@@ -1,0 +1,15 @@
+//! The two ends of a mount: a disk's image is recovered, so that its log begins anew, and all that a mount made is brought home.
+#![tactic(auto)]
+
+mod fault;
+mod homing;
+mod laws;
+mod mounted;
+mod recovering;
+mod unmounting;
+
+pub use fault::{EndFault, MountFault};
+pub use laws::stores_leave_prefixes;
+pub use mounted::{Mounted, StillMounted};
+pub use recovering::{Recovery, recover};
+pub use unmounting::unmount;
