@@ -8,3 +8,4 @@ pub mod Outside
 pub mod Script
 pub mod Steps
 pub mod Texts
+pub mod Words

@@ -135,3 +135,15 @@ pub(crate) fn write_check<D, K: Sink>(
     let printed = print_check(alloc, found, &ended.status);
     write_out(printed, ended, out)
 }
+
+/// Ends a run that was out of memory before its words were read.
+pub(crate) fn write_shortage<D, K: Sink>(alloc: Global, out: &mut K) -> Ended<D>
+    ensures status { Yields result.status status.NoMemory }
+    ensures output { (lines : Status → List ℕ) (own : Status) → IsWritten (K.bytes_held out.old) (K.bytes_held out.new) lines own result.status }
+    ensures sink_fault { result.status ≡ status.SinkFault → Rose (K.fault_count out.old) (K.fault_count out.new) }
+    ensures disk { IsNone result.disk }
+    ensures mounts { result.mounts.items ≡ [] }
+    ensures said { result.said.items ≡ [] }
+{
+    write_run(alloc, ended_early(alloc, Status::NoMemory), out)
+}

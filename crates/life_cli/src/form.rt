@@ -1,17 +1,22 @@
 // What the words of the command line ask for.
 
-ghost use Rattle.std.specs.Prelude.{◌≡◌, ◌↔◌, ◌<◌, ◌^◌, ℕ, List, Some, IsTrue, IfSome, MatchOption};
+ghost use Rattle.std.specs.Prelude.{◌≡◌, ◌↔◌, ◌<◌, ◌^◌, ℕ, List, Some, IsTrue, IfOk, IfSome, MatchOption, codes, string_bytes};
 ghost use Rattle.std.specs.Fmt.{decimal};
+ghost use Rattle.std.specs.List.{All};
 ghost use Rattle.geometry.specs.declared.shape.Geometry.{Geometry};
 ghost use Rattle.geometry.specs.Shape.{IsGeometry};
-ghost use Rattle.life_cli.specs.Form.{IsForm, IsMake, IsNoForm, IsCheck, IsPath, IsEncoded, IsSteps, made_geometry};
+ghost use Rattle.life_cli.specs.Words.{BeginWith};
+ghost use Rattle.life_cli.specs.Form.{IsEncoded, IsForm, IsMake, IsNoForm, IsPath, made_geometry};
 
+use crate::words::{MakeWords, read_image, read_make};
 use geometry::Geometry;
 use life_limits::{MAX_BLOCKS, MAX_GROUPS, MAX_RING, MIN_BLOCKS, MIN_RING, VERSION};
+use life_ports::NoMemory;
 use life_table::read_number;
+use std::alloc::Global;
 
 /// What the program is to do, with the image at this path.
-pub(crate) enum Form<'a> {
+pub enum Form<'a> {
     Steps { path: &'a str },
     Check { path: &'a str },
     Make { path: &'a str, geometry: Geometry },
@@ -27,28 +32,22 @@ fn is_path(word: &str) -> bool
     }
 }
 
-/// The path of the image, where the words are `steps` and a path.
-fn steps_path(words: &[String]) -> Option<&str>
-    ensures { MatchOption result ((path : List ℕ) → IsSteps words.now path → ⊥) (λ path. IsSteps words.now path.now) }
+// Whether no word is empty or an option.
+fn have_no_option(words: &[String]) -> bool
+    ensures { IsTrue result ↔ All (λ word. IsPath (string_bytes word)) words.now }
 {
-    match words {
-        [form, image] if form.as_str() == "steps" && is_path(image.as_str()) => Some(
-            image.as_str(),
-        ),
-        _ => None,
-    }
+    words.iter().all(|word| is_path(word.as_str()))
 }
 
-/// The path of the image, where the words are `check` and a path.
-fn check_path(words: &[String]) -> Option<&str>
-    ensures { MatchOption result ((path : List ℕ) → IsCheck words.now path → ⊥) (λ path. IsCheck words.now path.now) }
+/// The word that chooses the form, where no word is empty or an option.
+fn form_word(words: &[String]) -> Option<&str>
+    ensures { MatchOption result ((form : List ℕ) → BeginWith words.now form → ⊥) (λ form. BeginWith words.now form.now) }
 {
-    match words {
-        [form, image] if form.as_str() == "check" && is_path(image.as_str()) => Some(
-            image.as_str(),
-        ),
-        _ => None,
+    if !have_no_option(words) {
+        return None;
     }
+    let form = words.first()?;
+    Some(form.as_str())
 }
 
 /// Reads a number of 32 bits in decimal without leading zeros.
@@ -90,32 +89,52 @@ fn read_geometry(groups: &str, blocks: &str, ring: &str) -> Option<Geometry>
     })
 }
 
-/// The path and the geometry, where the words are `make`, a path, groups, blocks of a group and sectors of the ring.
-fn make_parts(words: &[String]) -> Option<(&str, Geometry)>
-    ensures { MatchOption result ((path : List ℕ) (g : Geometry) → IsMake words.now path g → ⊥) (λ parts. IsMake words.now parts.0.now parts.1) }
+/// The path and the geometry, where the words behind `make` are a path, groups, blocks of a group and sectors of the ring.
+fn make_parts<'a>(
+    alloc: Global,
+    words: &'a [String],
+) -> Result<Option<(&'a str, Geometry)>, NoMemory>
+    requires { BeginWith words.now (codes "make") }
+    ensures { IfOk result (λ found. MatchOption found
+        ((path : List ℕ) (g : Geometry) → IsMake words.entry.now path g → ⊥) (λ parts. IsMake words.entry.now parts.0.now parts.1)) }
 {
-    match words {
-        [form, image, groups, blocks, ring] if form.as_str() == "make" && is_path(image.as_str()) =>
-            {
-                let geometry = read_geometry(groups.as_str(), blocks.as_str(), ring.as_str())?;
-                Some((image.as_str(), geometry))
-            }
-        _ => None,
+    let Some(
+        MakeWords {
+            image,
+            groups,
+            blocks,
+            ring,
+        },
+    ) = read_make(alloc, words)?
+    else {
+        return Ok(None);
+    };
+    match read_geometry(groups, blocks, ring) {
+        Some(geometry) => Ok(Some((image, geometry))),
+        None => Ok(None),
     }
 }
 
-/// The form that the words are in.
-pub(crate) fn read_form(words: &[String]) -> Option<Form<'_>>
-    ensures { MatchOption result (IsNoForm words.now) (λ form. IsForm words.now form) }
+/// The form that the words are in. The first word chooses it, and `clap` takes the words behind.
+pub fn read_form(alloc: Global, words: &[String]) -> Result<Option<Form<'_>>, NoMemory>
+    ensures { IfOk result (λ found. MatchOption found (IsNoForm words.entry.now) (λ form. IsForm words.entry.now form)) }
 {
-    if let Some(path) = steps_path(words) {
-        return Some(Form::Steps { path });
-    }
-    if let Some(path) = check_path(words) {
-        return Some(Form::Check { path });
-    }
-    match make_parts(words) {
-        Some((path, geometry)) => Some(Form::Make { path, geometry }),
-        None => None,
+    let Some(form) = form_word(words) else {
+        return Ok(None);
+    };
+    match form {
+        "steps" => {
+            let path = read_image(alloc, form, words)?;
+            Ok(path.map(|path| Form::Steps { path }))
+        }
+        "check" => {
+            let path = read_image(alloc, form, words)?;
+            Ok(path.map(|path| Form::Check { path }))
+        }
+        "make" => {
+            let parts = make_parts(alloc, words)?;
+            Ok(parts.map(|(path, geometry)| Form::Make { path, geometry }))
+        }
+        _ => Ok(None),
     }
 }

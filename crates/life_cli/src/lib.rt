@@ -13,8 +13,10 @@ mod script;
 mod steps;
 mod texts;
 mod top_call;
+mod words;
 
 pub use checking::{Checked, Numbers, run_check};
+pub use form::{Form, read_form};
 pub use making::run_make;
 pub use output::write_whole;
 pub use steps::run_steps;

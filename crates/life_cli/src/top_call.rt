@@ -13,12 +13,12 @@ ghost use Rattle.life_cli.specs.Texts.{check_lines, make_lines, run_lines};
 ghost use Rattle.thin_run.specs.declared.types.Status.TheVariants as status;
 
 use crate::checking::{Checked, run_check};
-use crate::ending::{ended_early, write_check, write_make, write_run};
+use crate::ending::{ended_early, write_check, write_make, write_run, write_shortage};
 use crate::form::{Form, read_form};
 use crate::making::run_make;
 use crate::steps::run_steps;
 use disk_model::Images;
-use life_ports::{Sink, Source};
+use life_ports::{NoMemory, Sink, Source};
 use std::alloc::Global;
 use thin_run::{Ended, Status};
 
@@ -88,7 +88,11 @@ pub fn top<I: Images, S: Source, K: Sink>(
         (λ _. IsGiven words.now (I.given images.old) (I.given images.new)) }
     ensures disk { result.status ≡ status.Good → IsSome result.disk }
 {
-    match read_form(words) {
+    let form = match read_form(alloc, words) {
+        Ok(form) => form,
+        Err(NoMemory) => return write_shortage(alloc, out),
+    };
+    match form {
         Some(Form::Steps { path }) => write_run(alloc, run_steps(alloc, path, images, script), out),
         Some(Form::Make { path, geometry }) => {
             write_make(
