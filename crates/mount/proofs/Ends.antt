@@ -1,5 +1,5 @@
 -- What a store leaves that brought its commits home.
-use Rattle.std.proofs.Common.{◌≡◌, ℕ, ◌+◌, ◌≤◌, Bool, List, [], length, sym, ap, subst, ◌∙◌, arith}
+use Rattle.std.proofs.Common.{◌≡◌, ℕ, ◌+◌, Bool, List, [], length, sym, subst, arith}
 use Rattle.std.specs.Prelude.{IsTrue}
 use Rattle.life_bytes.specs.declared.sector.Sector.{Sector}
 use Rattle.disk_model.specs.Disk.{Cell, Elapses, IsImage}
@@ -8,7 +8,6 @@ use Rattle.geometry.specs.declared.shape.Geometry.{Geometry}
 use Rattle.geometry.specs.Places.{anchor_of}
 use Rattle.life_table.specs.declared.table.Table.{Table}
 use Rattle.life_table.specs.History.{closed}
-use Rattle.log_record.specs.declared.image.Commit.{Commit}
 use Rattle.log_store.specs.declared.store.Store.{Store}
 use Rattle.log_store.specs.OnDisk.{HasCover, ReplaysTo, ReplaysUpTo}
 use Rattle.log_store.specs.State.{State, state_of}

@@ -1,16 +1,13 @@
 -- What a recovery leaves, step by step.
-use Rattle.std.proofs.Common.{◌≡◌, ℕ, ◌+◌, ◌≤◌, ◌⊎◌, Bool, List, refl, sym, ap, subst, inl, inr, ◌∙◌, arith}
-use Rattle.std.specs.Prelude.{IsTrue, Result, Ok, Err, IsErrOf, ◌↔◌}
-use Rattle.life_limits.specs.declared.TheConstants.{MOUNT_LIMIT}
+use Rattle.std.proofs.Common.{◌≡◌, ℕ, List, refl, ap, subst, inl, inr, ◌∙◌}
+use Rattle.std.specs.Prelude.{Err}
 use Rattle.life_bytes.specs.declared.sector.Sector.{Sector}
-use Rattle.life_ports.specs.Faults.{Rose}
-use Rattle.disk_model.specs.Disk.{Arming, Cell, Elapses, IsAfterWrites, IsImage, as_read, flushed}
-use Rattle.disk_model.specs.DiskLaws.{Elapses-both, Elapses-weaker, as_read-flushed, IsImage-as_read}
+use Rattle.disk_model.specs.Disk.{Cell, Elapses, IsImage, as_read, flushed}
+use Rattle.disk_model.specs.DiskLaws.{Elapses-both, Elapses-weaker, as_read-flushed}
 use Rattle.geometry.specs.declared.shape.Geometry.{Geometry}
 use Rattle.geometry.specs.Places.{anchor_of}
 use Rattle.life_table.specs.declared.table.Table.{Table}
 use Rattle.sound_image.specs.Superblocks.{HasSuperblock}
-use Rattle.log_image.specs.Log.{Log}
 use Rattle.image_rules.specs.declared.tables.Tables.{Tables}
 use Rattle.recovery.specs.declared.found.Found.{Found}
 use Rattle.recovery.specs.declared.start.ReplayFault.{ReplayFault}
@@ -18,17 +15,11 @@ use Rattle.recovery.specs.declared.start.ReplayFault.TheVariants as replay
 use Rattle.recovery.specs.declared.start.Start.{Start}
 use Rattle.recovery.specs.Found.{HasGroupImages, LogIsFound}
 use Rattle.recovery.specs.Replay.{AreUsedUp, BeginsAnew, IsBehind, IsOfReplay, groups_found}
-use Rattle.whole_image.specs.Damage.{HasFrontAndLog, IsSound}
 use Rattle.whole_image.specs.Represents.{Represents}
-use Rattle.inspect.specs.declared.fault.InspectFault.{InspectFault}
-use Rattle.inspect.specs.declared.fault.InspectFault.TheVariants as inspect
-use Rattle.inspect.specs.Faults.{NamesFirstDamage}
 use Rattle.inspect.specs.Inspected.{IsSoundWith}
-use Rattle.mount.specs.declared.fault.MountFault.{MountFault}
-use Rattle.mount.specs.declared.fault.MountFault.TheVariants.{Damaged, ReadFault, WriteFault, FlushFault, PositionEnd, NoMemory}
-use Rattle.mount.specs.Faults.{IsDeviceCause, IsMountCause, of_inspection, of_replay}
+use Rattle.mount.specs.Faults.{IsMountCause, of_replay}
 use Rattle.mount.specs.Positions.{ArePositionsUsedUp}
-use Rattle.mount.specs.Left.{Arms, IsHandedBack}
+use Rattle.mount.specs.Left.{IsHandedBack}
 use Rattle.mount.specs.Same.{AllSame, IsLeftBy, RepresentSame}
 use Rattle.mount.specs.Recovered.{IsRecovered}
 

@@ -1,5 +1,5 @@
 -- The positions of a log, and what was found of it.
-use Rattle.std.proofs.Common.{◌≡◌, ℕ, ◌+◌, ◌≤◌, ◌⊎◌, List, sym, ap, subst, inl, inr, ◌∙◌, arith}
+use Rattle.std.proofs.Common.{◌≡◌, ℕ, List, ap, subst, inl, inr, arith}
 use Rattle.life_bytes.specs.declared.sector.Sector.{Sector}
 use Rattle.geometry.specs.declared.shape.Geometry.{Geometry}
 use Rattle.geometry.specs.Places.{anchor_of}
@@ -8,7 +8,7 @@ use Rattle.log_image.specs.Log.{IsLog, Log}
 use Rattle.recovery.specs.declared.found.Found.{Found}
 use Rattle.recovery.specs.Found.{LogIsFound}
 use Rattle.recovery.specs.Replay.{AreUsedUp}
-use Rattle.mount.specs.Positions.{ArePositionsUsedUp, IsUsedUp}
+use Rattle.mount.specs.Positions.{ArePositionsUsedUp}
 
 -- the laws of the crates below that are used
 pub record Ones : Type 0 where

@@ -1,5 +1,5 @@
 -- The positions of a log that are used up.
-use Rattle.std.specs.Prelude.{◌≡◌, ◌≤◌, ◌+◌, ◌⊎◌, ⊤, ℕ, List}
+use Rattle.std.specs.Prelude.{◌≤◌, ◌+◌, ◌⊎◌, List}
 use Rattle.life_limits.specs.declared.TheConstants.{MOUNT_LIMIT}
 use Rattle.life_bytes.specs.declared.sector.Sector.{Sector}
 use Rattle.geometry.specs.declared.shape.Geometry.{Geometry}

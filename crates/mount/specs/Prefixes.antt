@@ -1,5 +1,5 @@
 -- What images left of a store represent.
-use Rattle.std.specs.Prelude.{◌≡◌, ◌≤◌, ◌+◌, ℕ, List, length, take}
+use Rattle.std.specs.Prelude.{◌≤◌, ◌+◌, ℕ, List, length, take}
 use Rattle.life_bytes.specs.declared.sector.Sector.{Sector}
 use Rattle.geometry.specs.declared.shape.Geometry.{Geometry}
 use Rattle.life_table.specs.declared.table.Table.{Table}

@@ -1,5 +1,5 @@
 -- What a recovery leaves of a disk on which its log begins anew.
-use Rattle.std.specs.Prelude.{ℕ, List}
+use Rattle.std.specs.Prelude.{List}
 use Rattle.life_bytes.specs.declared.sector.Sector.{Sector}
 use Rattle.disk_model.specs.Disk.{Cell, HasOneImage, as_read}
 use Rattle.geometry.specs.declared.shape.Geometry.{Geometry}

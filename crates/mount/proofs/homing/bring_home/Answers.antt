@@ -1,4 +1,4 @@
-use Rattle.std.proofs.Common.{◌≡◌, ℕ, ◌+◌, length, ap, ◌∙◌, arith}
+use Rattle.std.proofs.Common.{◌≡◌, ◌+◌, length, arith}
 use Rattle.disk_model.specs.DiskLaws.{IsAfterWrites-both}
 use Rattle.mount.proofs.Bringing.{all_durable, cover_of}
 use Rattle.mount.proofs.Going.{goes_both}

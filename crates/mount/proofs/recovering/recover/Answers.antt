@@ -1,6 +1,6 @@
 use Rattle.std.proofs.Common.{◌≡◌, List, Err, refl, sym, ap, subst, ◌∙◌}
 use Rattle.life_bytes.specs.declared.sector.Sector.{Sector}
-use Rattle.disk_model.specs.Disk.{Cell, HasOneImage, as_read, flushed}
+use Rattle.disk_model.specs.Disk.{HasOneImage, as_read, flushed}
 use Rattle.disk_model.specs.DiskLaws.{HasOneImage-flushed, IsImage-as_read}
 use Rattle.geometry.specs.Places.{anchor_of}
 use Rattle.recovery.specs.declared.start.ReplayFault.TheVariants.{PositionEnd}
