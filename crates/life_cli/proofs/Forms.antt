@@ -1,5 +1,5 @@
 -- Words in a form are words of a command.
-use Rattle.std.proofs.Common.{◌≡◌, ◌<◌, ◌≤◌, ◌^◌, ℕ, List, [], ◌∷◌, String, Global, codes, get_or, arith}
+use Rattle.std.proofs.Common.{◌<◌, ◌≤◌, ◌^◌, ℕ, List, [], ◌∷◌, String, Global, codes, get_or, arith}
 use Rattle.std.proofs.lemmas.Fmt.{first_decimal}
 use Rattle.std.specs.Fmt.{decimal}
 use Rattle.life_cli.specs.Words.{BeginWith}

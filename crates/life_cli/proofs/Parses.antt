@@ -1,7 +1,7 @@
 -- From the clauses of a parse to the words.
-use Rattle.std.proofs.Common.{◌≡◌, ◌∙◌, ◌⊎◌, ℕ, true, List, [], ◌∷◌, map, codes, refl, ap, sym, subst, Some, None, Ok, Err, IfOk, IsErrAnd, MatchOption, MatchResult, Bor, Option, Result, option_map, inl, inr, rules, arith, String, Global, string_bytes, zero, suc, slice_get, IfSome, IsSome, true≢false}
+use Rattle.std.proofs.Common.{◌≡◌, ◌∙◌, true, List, [], ◌∷◌, map, codes, ap, sym, subst, Some, None, Ok, Err, IfOk, IsErrAnd, MatchOption, Bor, Option, Result, option_map, inl, inr, rules, arith, String, Global, string_bytes, zero, suc, slice_get, IfSome, IsSome, true≢false}
 use Rattle.std.specs.List.{All, AllByRecursion}
-use Rattle.clap.specs.Walk.{Text, first_of, rows_of}
+use Rattle.clap.specs.Walk.{Text, first_of}
 use Rattle.clap.specs.Simple.{App, HasMatchesOf, is_simple, matches_of}
 use Rattle.clap.specs.Kinds.{FailsBy, IsAmong}
 use Rattle.clap.specs.Faults.{fault_of, is_simple_and_free}

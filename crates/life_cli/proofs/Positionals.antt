@@ -1,12 +1,11 @@
 -- What a command of positional words makes of words of which none is an option.
-use Rattle.std.proofs.Common.{◌≡◌, ◌≢◌, ◌∙◌, ◌&&◌, ◌||◌, ℕ, Bool, true, false, not, List, [], ◌∷◌, map, codes, refl, ap, ap₂, sym, Some, None, Option, cond, true≢false, rules, suc, length, arith}
+use Rattle.std.proofs.Common.{◌≡◌, ◌∙◌, ◌&&◌, ◌||◌, ℕ, Bool, true, false, not, List, [], ◌∷◌, codes, refl, ap, ap₂, sym, Some, None, Option, true≢false, rules, suc, length, arith}
 use Rattle.std.specs.Prelude.{◌==◌, find, fold, is_some, option_and_then, if◌then◌else◌}
-use Rattle.std.specs.List.{All, AllByRecursion, list_all}
+use Rattle.std.specs.List.{AllByRecursion, list_all}
 use Rattle.std.specs.Option.{option_map_or}
-use Rattle.std.specs.Str.{bytes_eq}
 use Rattle.clap.specs.Lexer.{short_of, short_of_rest}
-use Rattle.clap.specs.Walk.{Held, Names, Row, Rule, Step, Text, Waiting, Walk, after_step, arg_by_index, finished, first_of, idle, is_multiple, nothing_held, settled, positional, to_positional, value, walk, walk_from, walked, word_met}
-use Rattle.clap.specs.Simple.{App, Shape, argument_words, built, entered, is_simple, matches_of, names_of}
+use Rattle.clap.specs.Walk.{Held, Rule, Step, Text, Walk, after_step, arg_by_index, finished, first_of, idle, is_multiple, nothing_held, settled, positional, to_positional, value, walk_from, walked, word_met}
+use Rattle.clap.specs.Simple.{App, Shape, built, entered, is_simple, matches_of}
 use Rattle.clap.specs.declared.error.kind.ErrorKind.{ErrorKind}
 use Rattle.clap.specs.Kinds.{Kinds, or_else}
 use Rattle.clap.specs.Faults.{check_fault, defaults_fault, entered_fault, fault_of, is_simple_and_free, settle_fault, step_fault, turn_fault, walk_fault, word_fault}

@@ -1,5 +1,5 @@
 -- A run that was out of memory before its words were read.
-use Rattle.std.proofs.Common.{◌≡◌, ◌⊎◌, inl, inr, [], ℕ, List, Option, IsNone, None, Some, refl, arith}
+use Rattle.std.proofs.Common.{◌≡◌, inl, inr, [], ℕ, List, Option, IsNone, None, Some, refl, arith}
 use Rattle.std.specs.Option.{MatchOption}
 use Rattle.geometry.specs.declared.shape.Geometry.{Geometry}
 use Rattle.thin_run.specs.declared.types.Status.{Status}
@@ -8,7 +8,7 @@ use Rattle.thin_run.specs.declared.types.MountRecord.{MountRecord}
 use Rattle.thin_run.specs.declared.types.Said.{Said}
 use Rattle.life_cli.specs.Input.{TakesAtMost}
 use Rattle.life_cli.specs.Making.{RunsMake}
-use Rattle.life_cli.specs.Outcome.{IsEarly, IsWritten, RunsNothing, Yields}
+use Rattle.life_cli.specs.Outcome.{IsWritten, RunsNothing, Yields}
 use Rattle.life_cli.specs.Outside.{ImagesSeen}
 use Rattle.life_cli.specs.Texts.{run_lines}
 

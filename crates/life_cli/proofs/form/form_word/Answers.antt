@@ -1,5 +1,4 @@
-use Rattle.std.proofs.Common.{◌≡◌, ℕ, List, true, false, true≢false, sym, ◌∙◌}
-use Rattle.life_cli.specs.Words.{BeginWith}
+use Rattle.std.proofs.Common.{true≢false, sym, ◌∙◌}
 use Rattle.life_cli.proofs.Parses.{command_words, first_word}
 use Rattle.life_cli.proofs.form.form_word.Goals as goal
 

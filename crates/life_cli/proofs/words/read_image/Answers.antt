@@ -1,4 +1,4 @@
-use Rattle.std.proofs.Common.{◌≡◌, ◌∙◌, ℕ, List, [], ◌∷◌, Some, IfOk, codes, map, string_bytes, sym, subst}
+use Rattle.std.proofs.Common.{◌∙◌, ℕ, List, map, string_bytes}
 use Rattle.life_cli.specs.Form.{IsOnImage}
 use Rattle.clap.specs.Words.{app_of}
 use Rattle.life_cli.proofs.Parses.{image_is, image_is_not, option_given}

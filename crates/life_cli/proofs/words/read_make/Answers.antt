@@ -1,4 +1,4 @@
-use Rattle.std.proofs.Common.{◌≡◌, ◌∙◌, ℕ, List, [], ◌∷◌, Some, IfOk, codes, map, string_bytes, sym, subst}
+use Rattle.std.proofs.Common.{◌≡◌, ℕ, List, [], ◌∷◌, codes, map, string_bytes}
 use Rattle.clap.specs.Words.{app_of, first_value, found_of}
 use Rattle.life_cli.proofs.Parses.{make_given, make_is, make_is_not}
 use Rattle.life_cli.proofs.words.read_make.Goals as goal
