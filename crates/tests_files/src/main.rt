@@ -121,7 +121,10 @@ fn put_files(rt: &HostRuntime) -> io::Result<()> {
 // Whether a file has these bytes behind so many others.
 fn has_behind(rt: &HostRuntime, path: &str, front: usize, bytes: &[u8]) -> io::Result<bool> {
     let found = fs::read(rt, path)?;
-    Ok(found.len() == front + bytes.len() && found.ends_with(bytes))
+    match found.len().checked_sub(bytes.len()) {
+        Some(behind) => Ok(behind == front && found.ends_with(bytes)),
+        None => Ok(false),
+    }
 }
 
 // Tells the runs over what is no image, and what they left.
