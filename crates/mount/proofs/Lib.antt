@@ -9,3 +9,8 @@ pub mod Used
 pub mod Recovers
 pub mod Results
 pub mod Ends
+pub mod Sights
+pub mod Keeps
+pub mod Loads
+pub mod Outcomes
+pub mod Inserts

@@ -6,3 +6,6 @@ pub mod Ending
 pub mod Faults
 pub mod Left
 pub mod Still
+pub mod Kept
+pub mod KeptLaws
+pub mod Loaded
