@@ -30,7 +30,7 @@ abbrev closed_group : Group → Group
 closed_group group = map_group closed_inode group
 
 -- the inode of a number
-inode_closed : (group : Group) (agino : ℕ) → inode_in (closed_group group) agino ≡ option_map closed_inode (inode_in group agino)
+pub inode_closed : (group : Group) (agino : ℕ) → inode_in (closed_group group) agino ≡ option_map closed_inode (inode_in group agino)
 unfolding inode_in
 inode_closed [] agino = refl
 inode_closed (chunk ∷ chunks) agino =
@@ -69,7 +69,7 @@ record_closed : (chunk : Chunk) → chunk_record (map_chunk closed_inode chunk) 
 unfolding chunk_record
 record_closed chunk = λ i. record { start = chunk.start; free = free_closed chunk.inodes i; mask = mask_closed chunk.inodes i }
 
-records_closed : (group : Group) → map chunk_record (closed_group group) ≡ map chunk_record group
+pub records_closed : (group : Group) → map chunk_record (closed_group group) ≡ map chunk_record group
 records_closed [] = refl
 records_closed (chunk ∷ chunks) = λ i. record_closed chunk i ∷ records_closed chunks i
 
@@ -110,7 +110,7 @@ unfolding is_free_block
 free_block_closed blocks group =
     ap (λ taken. λ block. nat_le FIRST_DATA_BLOCK block && (nat_lt block blocks && times block taken == 0)) (used_closed group)
 
-free_set_closed : (blocks : ℕ) (group : Group) → free_set blocks (closed_group group) ≡ free_set blocks group
+pub free_set_closed : (blocks : ℕ) (group : Group) → free_set blocks (closed_group group) ≡ free_set blocks group
 unfolding free_set
 free_set_closed blocks group = ap (λ (p : ℕ → Bool). map p (range_with_len 0 blocks)) (free_block_closed blocks group)
 
@@ -158,7 +158,7 @@ metadata_closed g layouts number group place =
     ((ap (option_map (inode_sector g layouts number place)) (inode_closed group place) ∙ sectors_closed g layouts number place (inode_in group place)) i))
     ∙ sym (metadata_is g layouts number group place)
 
-group_closed : (t : Table) (number : ℕ) → group_at (closed t) number ≡ closed_group (group_at t number)
+pub group_closed : (t : Table) (number : ℕ) → group_at (closed t) number ≡ closed_group (group_at t number)
 group_closed t number = get_or-map (map_group closed_inode) t.groups number []
 
 groups_closed : (groups : List Group) → length (map (map_group closed_inode) groups) ≡ length groups

@@ -1,6 +1,7 @@
 // Laws of the definitions. Each is the contract of a function that does nothing.
 
-ghost use Rattle.std.specs.Prelude.{◌≡◌, ◌≢◌, ◌↔◌, ◌<◌, ◌/◌, ℕ, List, [], Some, length};
+ghost use Rattle.std.specs.Prelude.{◌≡◌, ◌≢◌, ◌↔◌, ◌<◌, ◌/◌, ℕ, List, [], Some, length, map};
+ghost use Rattle.std.specs.Option.{option_map};
 ghost use Rattle.life_limits.specs.declared.TheConstants.{GROUP_NUMBERS};
 ghost use Rattle.life_bytes.specs.declared.sector.Sector.{Sector};
 ghost use Rattle.geometry.specs.declared.shape.Geometry.{Geometry};
@@ -8,13 +9,14 @@ ghost use Rattle.life_table.specs.declared.key.Key.{Key};
 ghost use Rattle.life_table.specs.declared.types.Call.{Call};
 ghost use Rattle.life_table.specs.declared.types.Reply.{Reply};
 ghost use Rattle.life_table.specs.declared.table.Table.{Table};
-ghost use Rattle.life_table.specs.Table.{Group, group_at, group_number, map_group, row_of, with_group};
+ghost use Rattle.life_table.specs.Table.{Group, group_at, group_number, inode_in, map_group, row_of, with_group};
 ghost use Rattle.life_table.specs.Legal.{Frees, Permits, after_call, freed};
 ghost use Rattle.life_table.specs.Replies.{reply_of};
 ghost use Rattle.life_table.specs.WellFormed.{IsTable};
 ghost use Rattle.life_table.specs.History.{closed, closed_inode};
 ghost use Rattle.group_core.specs.GroupHistory.{call_group};
-ghost use Rattle.sound_image.specs.Encoding.{AreLayouts, CanEncode, Layouts, encoded, metadata};
+ghost use Rattle.sound_image.specs.Rules.{free_set};
+ghost use Rattle.sound_image.specs.Encoding.{AreLayouts, CanEncode, Layouts, chunk_record, encoded, metadata};
 ghost use Rattle.group_frame.specs.Frames.{AgreesAt, alone};
 
 use encoded_changes::created_keys_are_free;
@@ -56,13 +58,18 @@ pub fn frees_stay_in_their_group()
     ensures others { (g other : ℕ) (t : Table) (key : Key) → group_number key ≡ g → other ≢ g → group_at (freed t key) other ≡ group_at t other }
 {}
 
-/// A law: the layouts of a table and the sectors that encode it are those of the table without holds.
+/// A law: the layouts of a table and the sectors that encode it are those of the table without holds; so are the records of its chunks and its free blocks. Each
+/// inode of the table without holds is that of the table, without holds.
 pub fn encodings_pass_over_holds()
     ensures metadata { (g : Geometry) (layouts : Layouts) (group : ℕ) (chunks : Group) (place : ℕ)
         → metadata g layouts group (map_group closed_inode chunks) place ≡ metadata g layouts group chunks place }
     ensures layouts { (t : Table) (layouts : Layouts) → AreLayouts t layouts ↔ AreLayouts (closed t) layouts }
     ensures encoded { (g : Geometry) (t : Table) (layouts : Layouts) (image : List Sector) → encoded g (closed t) layouts image ≡ encoded g t layouts image }
     ensures encodes { (g : Geometry) (t : Table) (layouts : Layouts) (image : List Sector) → CanEncode g t layouts image → CanEncode g (closed t) layouts image }
+    ensures groups { (t : Table) (g : ℕ) → group_at (closed t) g ≡ map_group closed_inode (group_at t g) }
+    ensures inodes { (chunks : Group) (agino : ℕ) → inode_in (map_group closed_inode chunks) agino ≡ option_map closed_inode (inode_in chunks agino) }
+    ensures records { (chunks : Group) → map chunk_record (map_group closed_inode chunks) ≡ map chunk_record chunks }
+    ensures free { (blocks : ℕ) (chunks : Group) → free_set blocks (map_group closed_inode chunks) ≡ free_set blocks chunks }
 {
     tables_stay_well_formed();
 }

@@ -83,10 +83,10 @@ brings_in s room t layouts agino inode is out there =
 
 -- ---- an inode that is let go
 
-remove_same : (m : FinMap nat_cmp Kept) (k : ℕ) → finmap.get (finmap.remove m k) k ≡ None
+pub remove_same : (m : FinMap nat_cmp Kept) (k : ℕ) → finmap.get (finmap.remove m k) k ≡ None
 remove_same m k = get-remove nat_cmp_total m k k ∙ ap (λ (b : Bool). cond b None (finmap.get m k)) (unsigned_tied k k ∙ eq-eqb k k refl)
 
-remove_other : (m : FinMap nat_cmp Kept) (k q : ℕ) → q ≢ k → finmap.get (finmap.remove m k) q ≡ finmap.get m q
+pub remove_other : (m : FinMap nat_cmp Kept) (k q : ℕ) → q ≢ k → finmap.get (finmap.remove m k) q ≡ finmap.get m q
 remove_other m k q apart = get-remove nat_cmp_total m k q ∙ ap (λ (b : Bool). cond b None (finmap.get m q)) (unsigned_tied q k ∙ ne_eqb q k apart)
 
 clean_of : (o : Option Kept) → IsSomeAnd o (λ kept. kept.dirty ≡ false) → is_dirty o ≡ false

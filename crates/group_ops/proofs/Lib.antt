@@ -38,3 +38,5 @@ pub mod UnusedChunks
 pub mod Owned
 pub mod Lawful
 pub mod Flushed
+pub mod Closing
+pub mod Caching

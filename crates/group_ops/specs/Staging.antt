@@ -1,7 +1,7 @@
 -- The places of a group whose sectors a change may touch, and the commit of it.
 use Rattle.std.specs.Prelude.{◌≡◌, ◌≤◌, ◌+◌, ◌-◌, ◌*◌, ℕ, List, All, length, map, [], ◌∷◌, ◌++◌, Option, None, Some, IfSome, IsSomeAnd, ◌||◌, is_some, if◌then◌else◌}
 use Rattle.std.specs.List.{range_with_len}
-use Rattle.life_limits.specs.declared.TheConstants.{BLOCK_SECTORS}
+use Rattle.life_limits.specs.declared.TheConstants.{BLOCK_SECTORS, MAX_IMAGES}
 use Rattle.life_bytes.specs.declared.sector.Sector.{Sector}
 use Rattle.log_record.specs.declared.image.Commit.{Commit}
 use Rattle.log_record.specs.declared.image.Image.{Image}
@@ -56,10 +56,11 @@ pub record Leads (s : StateValue) (d : Delta) (t : Table) (layouts : Layouts) (u
 abbrev pub LeadsOn : StateValue → Delta → Type 0
 LeadsOn s d = (t : Table) × (layouts : Layouts) × (u : Table) × (others : Layouts) × Leads s d t layouts u others
 
--- The commit of a change: that of the state's group, with exactly the images of how the group changes.
+-- The commit of a change: that of the state's group, with exactly the images of how the group changes, no more than a commit may have.
 pub record IsCommitOf (s : StateValue) (t : Table) (layouts : Layouts) (u : Table) (others : Layouts) (commit : Commit) : Type 0 where
   pub group : commit.group ≡ s.group
   pub images : AreImagesOf s.geometry s.group layouts (group_at t s.group) others (group_at u s.group) commit.images
+  pub few : length commit.images ≤ MAX_IMAGES
 
 -- A change of a state: what it makes anew, and its commit, until that is handed out.
 pub record ChangeValue : Type 0 where

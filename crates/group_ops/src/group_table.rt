@@ -1,15 +1,16 @@
 // A group's state as what keeps the table of its group.
 
-ghost use Rattle.std.specs.Prelude.{◌≡◌, ◌<◌, Some, IsSomeAnd};
+ghost use Rattle.std.specs.Prelude.{◌≡◌, ◌<◌, ℕ, Some, IsSomeAnd};
+ghost use Rattle.std.specs.Option.{option_map};
 ghost use Rattle.geometry.specs.Shape.{IsGeometry};
 ghost use Rattle.life_table.specs.declared.key.Key.{Key};
 ghost use Rattle.life_table.specs.declared.types.Call.{Call};
 ghost use Rattle.life_table.specs.declared.types.Reply.{Reply};
 ghost use Rattle.life_table.specs.declared.types.Event.TheVariants.{Called, Freed};
 ghost use Rattle.life_table.specs.declared.table.Table.{Table};
-ghost use Rattle.life_table.specs.History.{closed};
+ghost use Rattle.life_table.specs.History.{closed, closed_inode};
 ghost use Rattle.life_table.specs.Legal.{Awaits, IsNoHold, Permits, after_call, freed};
-ghost use Rattle.life_table.specs.Table.{group_number, row_of};
+ghost use Rattle.life_table.specs.Table.{group_at, group_number, inode_in, row_of};
 ghost use Rattle.group_core.specs.GroupHistory.{HappensUnheld, call_group};
 ghost use Rattle.group_frame.specs.Frames.{alone};
 ghost use Rattle.sound_image.specs.Encoding.{Layouts};
@@ -24,7 +25,10 @@ use crate::state::GroupState;
 use encoded_changes::places_have_their_metadata;
 use extent_fork::encoded_forks_are_read;
 use group_core::{GroupTable, legal_events_happen_unheld};
-use group_frame::{calls_stay_in_their_group, frees_stay_in_their_group, groups_stand_apart};
+use group_frame::{
+    calls_stay_in_their_group, encodings_pass_over_holds, frees_stay_in_their_group,
+    groups_stand_apart,
+};
 use inode_core::encoded_cores_are_read;
 use life_ports::NoMemory;
 use sound_image::encoded_places;
@@ -40,6 +44,16 @@ pub fn states_have_their_table()
     encoded_cores_are_read();
     encoded_forks_are_read();
     groups_stand_apart();
+}
+
+/// A law: the inode of a number in that table is the one in the table of which the state is the group, with nobody holding it. So they have the same numbers.
+pub fn states_have_their_inodes()
+    ensures { (s : StateValue) (t : Table) (layouts : Layouts) (agino : ℕ) → IsGeometry s.geometry → s.group < s.geometry.groups → IsGroupOf s t layouts
+        → inode_in (group_at (own_table s) s.group) agino ≡ option_map closed_inode (inode_in (group_at t s.group) agino) }
+{
+    states_have_their_table();
+    groups_stand_apart();
+    encodings_pass_over_holds();
 }
 
 /// A law: a change that leads from a table to the one after a call in the state's group, or after a free there, takes the state's own table to what this
@@ -64,7 +78,9 @@ impl GroupTable for GroupState {
     ghost use Rattle.std.proofs.Common.{◌≡◌, refl, subst, sym};
     ghost use Rattle.group_ops.specs.Staging.{ChangeValue};
     ghost use Rattle.group_ops.specs.Changes.{changed_state, with_room};
+    ghost use Rattle.group_ops.specs.Keeping.{IsBrought, IsGone, IsWrittenBack};
     ghost use Rattle.group_ops.specs.OwnTable.{TakesTo, own_table, told_cached};
+    ghost use Rattle.group_ops.specs.Represents.{RepresentsGroup};
     ghost use Rattle.group_ops.specs.Values.{kept_at};
 
     type Change = Change;
@@ -83,6 +99,14 @@ impl GroupTable for GroupState {
 
     ghost applied = { λ s change after. after ≡ with_room (changed_state s change.delta) after.room };
 
+    ghost represents = { λ s. RepresentsGroup s };
+
+    ghost brought = { λ s agino after. IsBrought s agino after };
+
+    ghost flushed = { λ s after. IsWrittenBack s after };
+
+    ghost gone = { λ s agino after. IsGone s agino after };
+
     fn reserve(&mut self) -> Result<(), NoMemory> {
         self.make_room()
     }
@@ -91,6 +115,33 @@ impl GroupTable for GroupState {
         self.hold();
         states_have_their_table();
         self.make_change(next);
+    }
+
+    fn bring_in(&mut self, agino: u32) -> Result<(), NoMemory> {
+        self.hold();
+        states_have_their_table();
+        states_have_their_inodes();
+        self.bring_inode(agino)
+    }
+
+    fn in_core(&self, from: u32) -> Option<u32> {
+        self.first_in_core(from)
+    }
+
+    fn clean(&self, agino: u32) -> bool {
+        self.is_clean(agino)
+    }
+
+    fn flush(&mut self) {
+        self.hold();
+        states_have_their_table();
+        self.flush_all();
+    }
+
+    fn let_go(&mut self, agino: u32) {
+        self.hold();
+        states_have_their_table();
+        self.drop_inode(agino);
     }
 
     ghost has_room = { λ value n. refl };

@@ -114,7 +114,7 @@ impl GroupState {
     }
 
     /// The least number from one on whose inode is in core.
-    pub fn in_core(&self, from: u32) -> Option<u32>
+    pub(crate) fn first_in_core(&self, from: u32) -> Option<u32>
         ensures found { IfSome result (λ n. (from ≤ n) × (is_some (kept_at self.now n) ≡ true)) }
         ensures least { IfSome result (λ n. (k : ℕ) → from ≤ k → k < n → is_some (kept_at self.now k) ≡ false) }
         ensures none { IfNone result ((k : ℕ) → from ≤ k → is_some (kept_at self.now k) ≡ false) }
@@ -132,7 +132,7 @@ impl GroupState {
     }
 
     /// Whether the inode of a number, which has to be in core, is as its buffer has it.
-    pub fn clean(&self, agino: u32) -> bool
+    pub(crate) fn is_clean(&self, agino: u32) -> bool
         requires { IsSome (kept_at self.now agino) }
         ensures { IsTrue result ↔ IsSomeAnd (kept_at self.now agino) (λ kept. kept.dirty ≡ false) }
     {
@@ -140,7 +140,7 @@ impl GroupState {
     }
 
     /// Puts a clean copy of an inode in core, where it is not there yet.
-    pub fn bring_in(&mut self, agino: u32) -> Result<(), NoMemory>
+    pub(crate) fn bring_inode(&mut self, agino: u32) -> Result<(), NoMemory>
         requires { HasInodeAt self.old agino }
         ensures brought { (t : Table) (layouts : Layouts) (inode : Inode) → IsGroupOf self.old t layouts → inode_in (group_at t self.old.group) agino ≡ Some inode → OnOk result
             (self.new ≡ with_room (with_in_core self.old (brought_in self.old.in_core agino (incore_for layouts self.old.group agino inode) (kept_at self.old agino))) self.new.room) }
@@ -160,7 +160,7 @@ impl GroupState {
     }
 
     /// Takes an inode out of core, which has to be clean.
-    pub fn let_go(&mut self, agino: u32)
+    pub(crate) fn drop_inode(&mut self, agino: u32)
         requires clean { IsSomeAnd (kept_at self.old agino) (λ kept. kept.dirty ≡ false) }
         ensures gone { self.new ≡ with_room (with_in_core self.old (finmap.remove self.old.in_core agino)) self.new.room }
         ensures represents { StaysGroup self.old self.new }

@@ -1,4 +1,4 @@
-ghost use Rattle.std.specs.Prelude.{◌≡◌, false};
+ghost use Rattle.std.specs.Prelude.{◌≡◌, false, replicate};
 ghost use Rattle.life_table.specs.declared.types.Event.TheVariants.{Called};
 ghost use Rattle.life_table.specs.declared.types.Reply.TheVariants.{Done};
 
@@ -12,11 +12,25 @@ use std::alloc::Global;
 use std::mem;
 use std::test::Fail;
 
-/// A group with one inode in use, of which it keeps the links alone.
+/// A group with one inode in use, of which it keeps the links alone. Each number that is in core is marked; what is changed is written at once.
 #[derive(Drop)]
 struct Sample {
     links: u32,
     room: u32,
+    marks: [bool; 256],
+}
+
+impl Sample {
+    /// One with nothing in core.
+    fn with_links(links: u32) -> Sample
+        ensures { result ≡ record { links = links; room = 0; marks = replicate 256 false } }
+    {
+        Sample {
+            links,
+            room: 0,
+            marks: [false; 256],
+        }
+    }
 }
 
 /// Other links for it.
@@ -69,10 +83,9 @@ impl Staged for Relink {
 }
 
 impl GroupTable for Sample {
-    ghost use Rattle.std.specs.Prelude.{◌≡◌};
+    ghost use Rattle.std.specs.Prelude.{◌≡◌, ⊤};
     ghost use Rattle.std.proofs.Common.{refl, sym, ap, ◌∙◌};
-    ghost use Rattle.group_core.specs.InCore.{uncached};
-    ghost use Rattle.tests_groups.specs.Sample.{sample_table};
+    ghost use Rattle.tests_groups.specs.Sample.{marked, sample_table};
 
     type Change = Relink;
 
@@ -84,11 +97,19 @@ impl GroupTable for Sample {
 
     ghost takes = { λ s next u. (next.from ≡ s.links) × (u ≡ sample_table next.to) };
 
-    ghost cached = { λ _ _. uncached };
+    ghost cached = { λ s agino. marked s.marks agino };
 
-    ghost with_room = { λ s n. record { links = s.links; room = n } };
+    ghost with_room = { λ s n. record { links = s.links; room = n; marks = s.marks } };
 
     ghost applied = { λ _ next after. after.links ≡ next.to };
+
+    ghost represents = { λ _. ⊤ };
+
+    ghost brought = { λ s _ after. after.links ≡ s.links };
+
+    ghost flushed = { λ s after. after.links ≡ s.links };
+
+    ghost gone = { λ s _ after. after.links ≡ s.links };
 
     fn reserve(&mut self) -> Result<(), NoMemory> {
         self.room = self.room.max(1);
@@ -98,6 +119,30 @@ impl GroupTable for Sample {
     fn apply(&mut self, next: Relink) {
         self.links = next.to;
         self.room -= 1;
+    }
+
+    fn bring_in(&mut self, agino: u32) -> Result<(), NoMemory> {
+        self.marks[agino as usize] = true;
+        Ok(())
+    }
+
+    fn in_core(&self, from: u32) -> Option<u32> {
+        for agino in from..256 {
+            if self.marks[agino as usize] {
+                return Some(agino);
+            }
+        }
+        None
+    }
+
+    fn clean(&self, agino: u32) -> bool {
+        self.marks[agino as usize]
+    }
+
+    fn flush(&mut self) {}
+
+    fn let_go(&mut self, agino: u32) {
+        self.marks[agino as usize] = false;
     }
 
     ghost has_room = { λ value n. refl };
@@ -124,7 +169,7 @@ fn made(call: Call) -> Entry
 
 #[test]
 fn a_group_keeps_its_entries_and_makes_its_changes(rt: HostRuntime) -> Result<(), Fail> {
-    let mut group = begin_group(rt.alloc(), Sample { links: 1, room: 0 })?;
+    let mut group = begin_group(rt.alloc(), Sample::with_links(1))?;
     group.reserve()?;
     group.note(made(Call::FlushInodes { group: 0 }));
     group.reserve()?;
@@ -138,9 +183,21 @@ fn a_group_keeps_its_entries_and_makes_its_changes(rt: HostRuntime) -> Result<()
     assert_eq!(rt; group.state().links, 0);
     assert_eq!(rt; group.history().len(), 2);
     assert_eq!(rt; group.into_history().len(), 2);
-    let other = begin_group(rt.alloc(), Sample { links: 3, room: 0 })?;
+    let other = begin_group(rt.alloc(), Sample::with_links(3))?;
     assert_eq!(rt; other.into_state().links, 3);
     histories_lead_to_one_table();
     legal_events_happen_unheld();
+    Ok(())
+}
+
+#[test]
+fn a_group_brings_inodes_in_and_lets_them_go(rt: HostRuntime) -> Result<(), Fail> {
+    let mut group = begin_group(rt.alloc(), Sample::with_links(1))?;
+    group.bring_in(200)?;
+    assert!(rt; group.in_core(0) == Some(200));
+    assert!(rt; group.clean(200));
+    group.flush();
+    group.let_go(200);
+    assert!(rt; group.in_core(0).is_none());
     Ok(())
 }

@@ -1,5 +1,6 @@
 use Rattle.std.proofs.Common.{ap, ◌∙◌}
 use Rattle.group_ops.specs.Values.{StateValue}
+use Rattle.group_ops.proofs.Caching.{represents_after}
 use Rattle.group_ops.proofs.Lawful.{cached_after, table_after}
 use Rattle.group_ops.proofs.Leading.{changed_group}
 use Rattle.group_ops.proofs.group_table.GroupStateGroupTable.apply.Goals as goal
@@ -13,3 +14,7 @@ returns-clause-table c u takes =
 
 pub returns-clause-cached : goal.returns-clause-cached
 returns-clause-cached c agino = cached_after c.args.self.now c.make_change.new.self c.args.next.delta c.make_change.new.self.room agino c.make_change.ensures.changed
+
+pub returns-clause-represents : goal.returns-clause-represents
+returns-clause-represents c =
+    represents_after c.args.self.now c.make_change.new.self c.args.next.delta c.make_change.new.self.room c.requires.made.0 c.make_change.ensures.changed c.requires.made.1

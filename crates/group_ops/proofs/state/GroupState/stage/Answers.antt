@@ -1,4 +1,5 @@
-use Rattle.std.proofs.Common.{◌≡◌, ◌++◌, List, ap, sym, subst, arith, ◌∙◌}
+use Rattle.std.proofs.Common.{◌≡◌, ◌≤◌, ◌++◌, List, length, ap, sym, subst, arith, ◌∙◌}
+use Rattle.life_limits.specs.declared.TheConstants.{MAX_IMAGES}
 use Rattle.log_record.specs.declared.image.Image.{Image}
 use Rattle.life_table.specs.Table.{group_at}
 use Rattle.encoded_changes.specs.Carry.{AreImagesOf}
@@ -43,8 +44,9 @@ returns c t layouts u others leads =
     let p = whole.pushes t layouts u others leads in
     let images : c.finish.result.images ≡ changed_images s.geometry s.group p.candidates =
     c.finish.ensures.images ∙ p.images ∙ ap (λ (l : List Image). l ++ changed_images s.geometry s.group p.candidates) begun.2 in
-    let right = (law.images s.geometry s.group layouts others (group_at t s.group) (group_at u s.group) (touched s.page d) p.candidates leads.enough p.at p.each).0 in
+    let right = law.images s.geometry s.group layouts others (group_at t s.group) (group_at u s.group) (touched s.page d) p.candidates leads.enough p.at p.each in
     record {
       group = c.finish.ensures.group ∙ whole.own.group;
-      images = subst (AreImagesOf s.geometry s.group layouts (group_at t s.group) others (group_at u s.group)) (sym images) right;
+      images = subst (AreImagesOf s.geometry s.group layouts (group_at t s.group) others (group_at u s.group)) (sym images) right.0;
+      few = subst (λ (l : List Image). length l ≤ MAX_IMAGES) (sym images) right.1;
     }

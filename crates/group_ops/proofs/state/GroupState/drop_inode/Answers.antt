@@ -4,7 +4,7 @@ use Rattle.inode_cache.specs.Caches.{Cache}
 use Rattle.group_ops.specs.Represents.{IsGroupOf}
 use Rattle.group_ops.specs.Values.{StateValue, kept_at}
 use Rattle.group_ops.proofs.Keepings.{goes_now}
-use Rattle.group_ops.proofs.state.GroupState.let_go.Goals as goal
+use Rattle.group_ops.proofs.state.GroupState.drop_inode.Goals as goal
 
 pub returns-clause-represents : goal.returns-clause-represents
 returns-clause-represents c t layouts is =

@@ -10,7 +10,7 @@ use Rattle.group_ops.proofs.Incores.{Laws, incore_right}
 use Rattle.group_ops.proofs.Keepings.{brings_now}
 use Rattle.group_ops.proofs.Standing.{at_number, number_small}
 use Rattle.group_ops.proofs.Told.{none_is}
-use Rattle.group_ops.proofs.state.GroupState.bring_in.Goals as goal
+use Rattle.group_ops.proofs.state.GroupState.bring_inode.Goals as goal
 
 pub install-requires-clause-agino_small : goal.install-requires-clause-agino_small
 install-requires-clause-agino_small c =
