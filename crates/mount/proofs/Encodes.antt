@@ -25,7 +25,7 @@ unfolding encoded
 at_encoded g t layouts image s d lt =
     get_or-map-range_with_len (λ s. sector_of (encoded_bytes g t layouts image s)) 0 (length image) s s d lt (omega arith)
 
-bytes_same : (g : Geometry) (t : Table) (layouts : Layouts) (a b : List Sector) (s : ℕ) → bytes_at a s ≡ bytes_at b s
+pub bytes_same : (g : Geometry) (t : Table) (layouts : Layouts) (a b : List Sector) (s : ℕ) → bytes_at a s ≡ bytes_at b s
     → encoded_bytes g t layouts a s ≡ encoded_bytes g t layouts b s
 unfolding encoded_bytes
 bytes_same g t layouts a b s same =

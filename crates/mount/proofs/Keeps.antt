@@ -25,6 +25,7 @@ use Rattle.log_image.specs.Log.{groups_part}
 use Rattle.commit_history.specs.Carried.{IsEncoding}
 use Rattle.mount.specs.Kept.{Agrees, Has, HasChunk, HasGroup, HasRun, kept_image, kept_sector}
 use Rattle.mount.specs.KeptLaws.{get_or-kept_image, length-kept_image}
+use Rattle.mount.proofs.Encodes.{bytes_same, bytes_taken}
 
 pub sector_more : (g : Geometry) (group place k : ℕ) → sector_in g group place + k ≡ sector_in g group (place + k)
 unfolding sector_in
@@ -120,15 +121,6 @@ behind_groups : (g : Geometry) (t : Table) (layouts : Layouts) (image : List Sec
 unfolding encoded_bytes
 behind_groups g t layouts image s past = cond-false (ltb s (g.groups * group_sectors g)) _ _ (le-ltb s (g.groups * group_sectors g) past)
 
-bytes_alike : (g : Geometry) (t : Table) (layouts : Layouts) (a b : List Sector) (s : ℕ) → bytes_at a s ≡ bytes_at b s → encoded_bytes g t layouts a s ≡ encoded_bytes g t layouts b s
-unfolding encoded_bytes
-bytes_alike g t layouts a b s same =
-    ap (λ (x : List ℕ). cond (ltb s (g.groups * group_sectors g)) (unwrap_or (metadata g layouts (s / group_sectors g) (group_at t (s / group_sectors g)) (s % group_sectors g)) x) x) same
-
-part_bytes : (n s : ℕ) (image : List Sector) → s < n → bytes_at (groups_part n image) s ≡ bytes_at image s
-unfolding bytes_at
-part_bytes n s image lt = ap (λ (x : Sector). x.bytes) (get_or-take n image s zero_sector lt)
-
 -- what the groups' sectors encode, the image does
 pub whole_encodes : (g : Geometry) (t : Table) (layouts : Layouts) (image : List Sector) → anchor_of g ≤ length image → IsEncoding g t layouts (groups_part (anchor_of g) image) → IsEncoding g t layouts image
 whole_encodes g t layouts image long is =
@@ -138,9 +130,9 @@ whole_encodes g t layouts image long is =
       can = record { shape = is.can.shape; table = is.can.table; groups = is.can.groups; blocks = is.can.blocks; layouts_of = is.can.layouts_of; size = long };
       same = all_same g t layouts image (λ s lt. elim (cases_lt s n) [
         | inl low ↦
-            bytes_alike g t layouts image part s (sym (part_bytes n s image low))
+            bytes_same g t layouts image part s (sym (bytes_taken n s image low))
             ∙ each_same g t layouts part s is.same (omega (arith, low, long, length-take n image))
-            ∙ part_bytes n s image low
+            ∙ bytes_taken n s image low
         | inr past ↦ behind_groups g t layouts image s past
       ]);
     }
