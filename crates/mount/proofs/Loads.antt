@@ -9,7 +9,7 @@ use Rattle.group_ops.specs.Loading.{IsLoadCause}
 use Rattle.group_ops.specs.declared.fault.LoadFault.{LoadFault}
 use Rattle.group_ops.specs.declared.fault.LoadFault.TheVariants.{Damaged, ReadFault, NoMemory}
 use Rattle.group_ops.specs.Values.{StateValue}
-use Rattle.mount.specs.Loaded.{IsGroupAt}
+use Rattle.orphan_frees.specs.Loaded.{IsGroupAt}
 
 get_before : (xs : List StateValue) (x : StateValue) (k : ℕ) → k < length xs → slice_get (xs ++ x ∷ []) k ≡ slice_get xs k
 get_before [] x k low = absurd (omega arith)

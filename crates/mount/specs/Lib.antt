@@ -8,4 +8,3 @@ pub mod Left
 pub mod Still
 pub mod Kept
 pub mod KeptLaws
-pub mod Loaded

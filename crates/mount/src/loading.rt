@@ -12,7 +12,7 @@ ghost use Rattle.sound_image.specs.Encoding.{Layouts};
 ghost use Rattle.commit_history.specs.Carried.{IsEncoding};
 ghost use Rattle.group_ops.specs.Loading.{IsLoadCause, IsNoDamage};
 ghost use Rattle.mount.specs.Kept.{kept_image};
-ghost use Rattle.mount.specs.Loaded.{AreGroups, AreGroupsOf};
+ghost use Rattle.orphan_frees.specs.Loaded.{AreGroups, AreGroupsOf};
 
 use crate::keeping::keep_groups;
 use crate::memory_view::MemoryView;

@@ -1,9 +1,10 @@
 -- Frees of several rows, one after the other.
 use Rattle.std.proofs.Common.{◌≡◌, ◌≢◌, ◌<◌, ◌≤◌, ◌+◌, ◌-◌, ◌/◌, ◌%◌, ◌++◌, ◌⊎◌, ℕ, zero, suc, false, List, [], ◌∷◌, length, get_or, take, append_assoc, Option, None, Some, inl, inr, refl, ap, sym, subst, ◌∙◌, arith}
 use Rattle.std.specs.Prelude.{⊤, IsSomeAnd}
-use Rattle.std.specs.List.{flat_map, range_with_len}
+use Rattle.std.specs.List.{All, AllByRecursion, flat_map, range_with_len}
 use Rattle.std.proofs.lemmas.Bool.{cases_eq}
 use Rattle.std.proofs.lemmas.List.{append-nil}
+use Rattle.std.proofs.lemmas.List.Elements.{All-from_recursion, recursion_from_All}
 use Rattle.life_limits.specs.declared.TheConstants.{GROUP_NUMBERS}
 use Rattle.life_table.specs.declared.key.Key.{Key}
 use Rattle.life_table.specs.declared.types.Row.{Row}
@@ -80,6 +81,20 @@ pub key_in_at : (group i : ℕ) (keys : List Key) (d : Key) → i < length keys 
 key_in_at group i [] d low all = absurd (omega (arith, low))
 key_in_at group zero (key ∷ keys) d low all = all.0
 key_in_at group (suc i) (key ∷ keys) d low all = key_in_at group i keys d (omega (arith, low)) all.1
+
+own_by : (group : ℕ) (keys : List Key) → AllIn group keys → AllByRecursion (λ (key : Key). key.number / GROUP_NUMBERS ≡ group) keys
+own_by group [] own = tt
+own_by group (key ∷ keys) own = (own.0, own_by group keys own.1)
+
+in_by : (group : ℕ) (keys : List Key) → AllByRecursion (λ (key : Key). key.number / GROUP_NUMBERS ≡ group) keys → AllIn group keys
+in_by group [] own = tt
+in_by group (key ∷ keys) own = (own.0, in_by group keys own.1)
+
+pub all_own : (group : ℕ) (keys : List Key) → AllIn group keys → All (λ (key : Key). key.number / GROUP_NUMBERS ≡ group) keys
+all_own group keys own = All-from_recursion (λ (key : Key). key.number / GROUP_NUMBERS ≡ group) keys (own_by group keys own)
+
+pub all_in : (group : ℕ) (keys : List Key) → All (λ (key : Key). key.number / GROUP_NUMBERS ≡ group) keys → AllIn group keys
+all_in group keys own = in_by group keys (recursion_from_All (λ (key : Key). key.number / GROUP_NUMBERS ≡ group) keys own)
 
 -- ---- a free leaves the other rows
 

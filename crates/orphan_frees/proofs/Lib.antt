@@ -3,3 +3,8 @@ mod Due
 mod Listed
 mod Counts
 mod Recovers
+mod Few
+mod Elsewhere
+mod OneFree
+mod Joined
+mod Groups

@@ -1,14 +1,17 @@
 // Laws of the definitions. Each is the contract of a function that does nothing but call the laws that its own rests on.
 
-ghost use Rattle.std.specs.Prelude.{◌≡◌, ◌≤◌, ℕ, List, [], length, take};
-ghost use Rattle.life_limits.specs.declared.TheConstants.{MAX_NUMBERS};
+ghost use Rattle.std.specs.Prelude.{◌≡◌, ◌≤◌, ◌<◌, ◌/◌, ◌%◌, ℕ, List, [], All, IsSomeAnd, length, slice_index_or, take};
+ghost use Rattle.life_limits.specs.declared.TheConstants.{GROUP_NUMBERS, MAX_NUMBERS};
 ghost use Rattle.life_bytes.specs.declared.sector.Sector.{Sector};
 ghost use Rattle.geometry.specs.declared.shape.Geometry.{Geometry};
 ghost use Rattle.life_table.specs.declared.key.Key.{Key};
 ghost use Rattle.life_table.specs.declared.table.Table.{Table};
 ghost use Rattle.life_table.specs.History.{After, LegalHistory, changes, closed, frees_of, orphans, recovered};
+ghost use Rattle.life_table.specs.Legal.{Awaits, freed};
+ghost use Rattle.life_table.specs.Table.{row_of};
 ghost use Rattle.sound_image.specs.Encoding.{CanEncode, Layouts};
-ghost use Rattle.orphan_frees.specs.Order.{freed_all, keys_to_free, unlisted_all};
+ghost use Rattle.encoded_changes.specs.Changes.{taken_from};
+ghost use Rattle.orphan_frees.specs.Order.{freed_all, keys_of_group, keys_to_free, unlisted_all};
 
 use encoded_changes::{
     encodings_follow_the_table, groups_change_alone, places_have_their_metadata,
@@ -34,6 +37,27 @@ pub fn recovery_frees_in_order()
     ensures none { (g : Geometry) (t : Table) (layouts : Layouts) (sectors : List Sector) → CanEncode g t layouts sectors → closed t ≡ t → orphans t ≡ 0 → keys_to_free t layouts ≡ [] }
     ensures few { (g : Geometry) (t : Table) (layouts : Layouts) (sectors : List Sector) → CanEncode g t layouts sectors → closed t ≡ t
         → length (keys_to_free t layouts) ≤ MAX_NUMBERS }
+{
+    tables_stay_well_formed();
+    recovery_frees_once();
+    changes_pass_over_holds();
+    encodings_follow_the_table();
+    groups_change_alone();
+    places_have_their_metadata();
+}
+
+/// A law: what a table can be encoded in, the one after a free can be too, once the inode is taken out of its list. The keys of a group's rows without links are
+/// of that group; of a table that nobody holds each of these rows awaits once those before it were freed.
+pub fn groups_are_freed_in_order()
+    ensures encodes { (g : Geometry) (t : Table) (layouts : Layouts) (sectors : List Sector) (key : Key) → CanEncode g t layouts sectors → IsSomeAnd (row_of t key) Awaits
+        → CanEncode g (freed t key) (taken_from layouts (key.number / GROUP_NUMBERS) (key.number % GROUP_NUMBERS)) sectors }
+    ensures all_encode { (g : Geometry) (t : Table) (layouts : Layouts) (sectors : List Sector) (group count : ℕ) → CanEncode g t layouts sectors → closed t ≡ t → group < g.groups
+        → CanEncode g (freed_all t (take count (keys_of_group t layouts group))) (unlisted_all layouts (take count (keys_of_group t layouts group))) sectors }
+    ensures own { (g : Geometry) (t : Table) (layouts : Layouts) (sectors : List Sector) (group : ℕ) → CanEncode g t layouts sectors → closed t ≡ t → group < g.groups
+        → All (λ (key : Key). key.number / GROUP_NUMBERS ≡ group) (keys_of_group t layouts group) }
+    ensures awaits { (g : Geometry) (t : Table) (layouts : Layouts) (sectors : List Sector) (group i : ℕ) (d : Key) → CanEncode g t layouts sectors → closed t ≡ t → group < g.groups
+        → i < length (keys_of_group t layouts group)
+        → IsSomeAnd (row_of (freed_all t (take i (keys_of_group t layouts group))) (slice_index_or (keys_of_group t layouts group) i d)) Awaits }
 {
     tables_stay_well_formed();
     recovery_frees_once();

@@ -1,7 +1,7 @@
 use Rattle.std.proofs.Common.{◌≡◌, ◌+◌, ◌++◌, ◌∷◌, [], ℕ, List, Some, length, slice_get, refl, ap, sym, subst, ◌∙◌, length-append, arith}
 use Rattle.group_ops.specs.Values.{StateValue}
 use Rattle.mount.specs.KeptLaws.{same_shown}
-use Rattle.mount.specs.Loaded.{IsGroupAt}
+use Rattle.orphan_frees.specs.Loaded.{IsGroupAt}
 use Rattle.mount.proofs.Loads.{each_more}
 use Rattle.mount.proofs.loading.load_all.Goals as goal
 

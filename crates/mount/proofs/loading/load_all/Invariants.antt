@@ -5,7 +5,7 @@ use Rattle.sound_image.specs.Encoding.{Layouts}
 use Rattle.commit_history.specs.Carried.{IsEncoding}
 use Rattle.group_ops.specs.Values.{StateValue}
 use Rattle.mount.specs.Kept.{kept_image, shown_by}
-use Rattle.mount.specs.Loaded.{IsGroupAt}
+use Rattle.orphan_frees.specs.Loaded.{IsGroupAt}
 use Rattle.mount.proofs.loading.load_all.Given as goal
 
 abbrev pub invariant-loop-group : goal.invariant-loop-group

@@ -19,7 +19,7 @@ returns-in-Ok-clause-groups c =
     let one = c.sound_images_are_encoded.ensures a.g.now image c.requires.shape sound (omega (arith, length-kept_image a.kept.now (anchor_of a.g.now))) in
     let is : IsEncoding a.g.now (rows_of a.g.now image) one.0 image = record { can = one.1; same = one.2 } in
     IfOk-more c.load_all.result (c.load_all.ensures.groups (rows_of a.g.now image) one.0 is)
-    (λ states all. (rows_of a.g.now image, one.0, all, c.sound_tables_are_well_formed.ensures.no_opens a.g.now image))
+    (λ states all. (rows_of a.g.now image, one.0, image, all, one.1, c.sound_tables_are_well_formed.ensures.no_opens a.g.now image))
 
 pub returns-in-Err-Damaged-clause-no_damage : goal.returns-in-Err-Damaged-clause-no_damage
 returns-in-Err-Damaged-clause-no_damage c t layouts is =

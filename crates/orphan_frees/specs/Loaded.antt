@@ -1,10 +1,11 @@
 -- The groups of an image, loaded.
 use Rattle.std.specs.Prelude.{◌≡◌, ℕ, List, Some, length, slice_get}
+use Rattle.life_bytes.specs.declared.sector.Sector.{Sector}
 use Rattle.geometry.specs.declared.shape.Geometry.{Geometry}
 use Rattle.geometry.specs.Shape.{IsGeometry}
 use Rattle.life_table.specs.declared.table.Table.{Table}
 use Rattle.life_table.specs.History.{closed}
-use Rattle.sound_image.specs.Encoding.{Layouts}
+use Rattle.sound_image.specs.Encoding.{CanEncode, Layouts}
 use Rattle.group_ops.specs.Represents.{IsGroupOf}
 use Rattle.group_ops.specs.Values.{StateValue}
 
@@ -20,6 +21,7 @@ pub record AreGroupsOf (g : Geometry) (t : Table) (layouts : Layouts) (states : 
   pub count : length states ≡ g.groups
   pub each : (group : ℕ) (s : StateValue) → slice_get states group ≡ Some s → IsGroupAt g t layouts group s
 
--- they are those of some table, of which nobody holds an inode
+-- they are those of some table that sectors can encode, of which nobody holds an inode
 abbrev pub AreGroups : Geometry → List StateValue → Type 0
-AreGroups g states = (t : Table) × (layouts : Layouts) × AreGroupsOf g t layouts states × (closed t ≡ t)
+AreGroups g states =
+    (t : Table) × (layouts : Layouts) × (sectors : List Sector) × AreGroupsOf g t layouts states × CanEncode g t layouts sectors × (closed t ≡ t)
