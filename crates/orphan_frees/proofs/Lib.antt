@@ -8,3 +8,4 @@ mod Elsewhere
 mod OneFree
 mod Joined
 mod Groups
+mod Ordered

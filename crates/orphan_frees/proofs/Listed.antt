@@ -57,7 +57,7 @@ one_in f x c v a (suc n) none here low high =
     ]
 
 -- each number has what is asked, and stands once
-abbrev Members : (ℕ → Bool) → List ℕ → Type 0
+abbrev pub Members : (ℕ → Bool) → List ℕ → Type 0
 Members asked [] = ⊤
 Members asked (x ∷ xs) = (asked x ≡ true) × (times x xs ≡ 0) × Members asked xs
 
@@ -69,7 +69,7 @@ at_most : (b : Bool) → cond {A = ℕ} b 1 0 ≤ 1
 at_most true = omega arith
 at_most false = omega arith
 
-members : (asked : ℕ → Bool) (xs : List ℕ) → ((x : ℕ) → times x xs ≤ cond (asked x) 1 0) → Members asked xs
+pub members : (asked : ℕ → Bool) (xs : List ℕ) → ((x : ℕ) → times x xs ≤ cond (asked x) 1 0) → Members asked xs
 members asked [] few = tt
 members asked (x ∷ xs) few =
     let here : times x (x ∷ xs) ≡ 1 + times x xs = times-cons x x xs ∙ ap (λ (b : Bool). cond b 1 0 + times x xs) (eq-eqb x x refl) in
@@ -184,7 +184,7 @@ some_low has_place g t layouts image group agino inode can inside at =
     let size = sectors_are g in
     omega (arith, low, most, blocks, size)
 
-low_number : HasPlace → (g : Geometry) (t : Table) (layouts : Layouts) (image : List Sector) (group agino : ℕ) → CanEncode g t layouts image → group < g.groups
+pub low_number : HasPlace → (g : Geometry) (t : Table) (layouts : Layouts) (image : List Sector) (group agino : ℕ) → CanEncode g t layouts image → group < g.groups
     → is_unlinked (inode_in (group_at t group) agino) ≡ true → agino < GROUP_NUMBERS
 low_number has_place g t layouts image group agino can inside unlinked =
     let some = unlinked_some (inode_in (group_at t group) agino) unlinked in

@@ -1,7 +1,7 @@
 // Laws of the definitions. Each is the contract of a function that does nothing but call the laws that its own rests on.
 
-ghost use Rattle.std.specs.Prelude.{◌≡◌, ◌≤◌, ◌<◌, ◌/◌, ◌%◌, ℕ, List, [], All, IsSomeAnd, length, slice_index_or, take};
-ghost use Rattle.life_limits.specs.declared.TheConstants.{GROUP_NUMBERS, MAX_NUMBERS};
+ghost use Rattle.std.specs.Prelude.{◌≡◌, ◌≤◌, ◌<◌, ◌+◌, ◌*◌, ◌/◌, ◌%◌, ℕ, List, [], Some, All, IsSomeAnd, length, slice_get, slice_index_or, take};
+ghost use Rattle.life_limits.specs.declared.TheConstants.{BUCKETS, GROUP_NUMBERS, MAX_NUMBERS};
 ghost use Rattle.life_bytes.specs.declared.sector.Sector.{Sector};
 ghost use Rattle.geometry.specs.declared.shape.Geometry.{Geometry};
 ghost use Rattle.life_table.specs.declared.key.Key.{Key};
@@ -64,5 +64,14 @@ pub fn groups_are_freed_in_order()
     changes_pass_over_holds();
     encodings_follow_the_table();
     groups_change_alone();
+    places_have_their_metadata();
+}
+
+/// A law: the keys of a table's rows without links stand group by group, and in a group bucket by bucket.
+pub fn recovery_goes_by_bucket()
+    ensures { (g : Geometry) (t : Table) (layouts : Layouts) (sectors : List Sector) (i j : ℕ) (earlier later : Key) → CanEncode g t layouts sectors → i ≤ j
+        → slice_get (keys_to_free t layouts) i ≡ Some earlier → slice_get (keys_to_free t layouts) j ≡ Some later
+        → earlier.number / GROUP_NUMBERS * BUCKETS + earlier.number % BUCKETS ≤ later.number / GROUP_NUMBERS * BUCKETS + later.number % BUCKETS }
+{
     places_have_their_metadata();
 }

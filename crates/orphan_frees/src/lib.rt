@@ -5,4 +5,4 @@ mod frees;
 mod laws;
 
 pub use frees::free_orphans;
-pub use laws::{groups_are_freed_in_order, recovery_frees_in_order};
+pub use laws::{groups_are_freed_in_order, recovery_frees_in_order, recovery_goes_by_bucket};
