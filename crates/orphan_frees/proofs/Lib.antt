@@ -3,7 +3,6 @@ mod Due
 mod Listed
 mod Counts
 mod Recovers
-mod Few
 mod Elsewhere
 mod OneFree
 mod Joined

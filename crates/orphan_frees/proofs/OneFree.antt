@@ -26,7 +26,6 @@ use Rattle.group_ops.specs.Values.{StateValue}
 use Rattle.orphan_frees.specs.Order.{freed_all, unlisted_all}
 use Rattle.orphan_frees.specs.Steps.{CarryEach, FreesInGroup, FreesKeys, IsDue}
 use Rattle.orphan_frees.proofs.Elsewhere.{rest_of_room}
-use Rattle.orphan_frees.proofs.Few.{few_images}
 use Rattle.orphan_frees.proofs.Rows.{row_freed}
 
 -- the layouts without the inode of a key
@@ -101,7 +100,7 @@ carries encodes s change t layouts sectors key commit d due frees is =
       group = omega (arith, inside, group);
       only = subst (λ (n : ℕ). ChangesOnly n t layouts (freed t key) others) (sym group) leads.only;
       images = subst (λ (n : ℕ). AreImagesOf g n layouts (group_at t n) others (group_at (freed t key) n) commit.images) (sym group) of.images;
-      few = few_images g s.group layouts others (group_at t s.group) (group_at (freed t key) s.group) _ commit.images leads.enough of.images;
+      few = of.few;
       next = λ image can. encodes g t layouts image key can due.awaits;
     }
 
