@@ -1,9 +1,8 @@
 // Each rule of a sound image is broken alone, in two ways or more, and the least rule and its least sector are named where several are.
-use crate::images::{
-    Change, GEOMETRY, HELD, SECTORS, change, changed, damaged, inspected, sound_image,
-};
+use crate::images::{Change, HELD, change, changed, damaged, inspected, sound_image};
 use disk_model::{FaultDisk, MemoryDisk};
 use inspect::{InspectFault, inspect};
+use sample_images::{GEOMETRY, SECTORS};
 use std::alloc::Global;
 use std::process::Abort;
 use std::test::Fail;

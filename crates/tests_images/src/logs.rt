@@ -4,14 +4,13 @@ ghost use Rattle.life_bytes.specs.Sectors.{zero_sector};
 ghost use Rattle.disk_model.specs.Disk.{settled_as};
 ghost use Rattle.disk_model.specs.MemoryDisk.{cells_of};
 
-use crate::images::{
-    ANCHOR, GEOMETRY, HELD, SECTORS, changed, damaged, inspected, put, sound_image,
-};
+use crate::images::{HELD, changed, damaged, inspected, sound_image};
 use disk_model::MemoryDisk;
 use image_make::make;
 use image_rules::Tables;
 use inspect::{inspect, inspect_with_log};
 use life_bytes::{Sector, put_u32, put_u64};
+use sample_images::{ANCHOR, GEOMETRY, SECTORS, put};
 use std::alloc::Global;
 use std::test::Fail;
 
