@@ -1,10 +1,13 @@
 // The program: a table, and one call after another.
 
-ghost use Rattle.std.specs.Prelude.{◌≡◌, ◌<◌, ◌≤◌, ◌↔◌, ◌⊎◌, IfOk, IfSome, IfNone, IsSome, IsSomeAnd, OnErr, IsTrue};
+ghost use Rattle.std.specs.Prelude.{◌≡◌, ◌<◌, ◌≤◌, ◌&&◌, ◌↔◌, ◌⊎◌, IfOk, IfSome, IfNone, IsSome, IsSomeAnd, OnErr, IsTrue, is_none, length};
+ghost use Rattle.std.specs.Option.{option_copied};
 ghost use Rattle.std.specs.Bool.{OnTrue, OnFalse};
 ghost use Rattle.life_table.specs.declared.table.Table.{Table};
-ghost use Rattle.life_table.specs.Table.{inode_of, row_of, with_inode, with_row, empty_table};
-ghost use Rattle.life_table.specs.Legal.{Awaits, IsOpen, IsOfTable, CanMake, Legal, Frees};
+ghost use Rattle.life_table.specs.Table.{group_at, inode_of, row_of, with_inode, with_row, empty_table};
+ghost use Rattle.life_table.specs.Space.{chunk_place, lowest_key};
+ghost use Rattle.life_table.specs.Legal.{Awaits, IsOpen, IsOfTable, CanMake, Legal, Frees, free_of};
+ghost use Rattle.life_table.specs.Replies.{reply_of};
 ghost use Rattle.life_table.specs.WellFormed.{IsTable};
 ghost use Rattle.life_limits.specs.declared.TheConstants.{MAX_BLOCKS, MAX_GENERATION, MAX_GROUPS, MAX_LINKS, MIN_BLOCKS, VERSION};
 ghost use Rattle.plain_table.specs.Beginnings.{with_links, in_life};
@@ -13,8 +16,8 @@ ghost use Rattle.plain_table.specs.Outcomes.{IsOutcome, key_called};
 use crate::copies::{copy_inode, copy_with_links};
 use crate::lookups::{group_of, inode_of, row_of, with_group, with_inode};
 use crate::rows::{RowOutcome, on_row};
-use crate::space::{find_lowest_key, prepare_group};
-use life_limits::VERSION;
+use crate::space::{find_lowest_key, list_free_blocks, place_for_chunk, prepare_group};
+use life_limits::{GROUP_NUMBERS, VERSION};
 use life_ports::NoMemory;
 use life_table::{
     Call, Group, Inode, Key, Listed, Reply, Row, Table, each_call_has_one_reply,
@@ -169,6 +172,46 @@ impl PlainTable {
         Ok(PlainTable {
             table: make_table(alloc, groups, blocks)?,
         })
+    }
+
+    /// The table itself.
+    pub fn table(&self) -> &Table
+        ensures table { result.now ≡ self.now }
+        ensures well_formed { IsTable self.now }
+    {
+        &self.table
+    }
+
+    /// The row of a key.
+    pub fn row(&self, key: Key) -> Option<&Row>
+        ensures { option_copied result ≡ row_of self.now key }
+    {
+        row_of(&self.table, key)
+    }
+
+    /// Whether no number of the group is free and no chunk can be added.
+    pub fn lacks_number(&self, g: u32) -> bool
+        ensures { result ≡ (is_none (lowest_key g (group_at self.now g)) && is_none (chunk_place self.now.blocks (group_at self.now g))) }
+    {
+        let group = group_of(&self.table, u64::from(g));
+        find_lowest_key(g, group).is_none() && place_for_chunk(self.table.blocks, group).is_none()
+    }
+
+    /// How many blocks of the key's group are free.
+    pub fn count_free(&self, alloc: Global, key: Key) -> Result<usize, NoMemory>
+        ensures { IfOk result (λ count. count ≡ length (free_of self.now key)) }
+    {
+        let group = group_of(&self.table, key.number / u64::from(GROUP_NUMBERS));
+        Ok(list_free_blocks(alloc, self.table.blocks, group)?.len())
+    }
+
+    /// What the table answers to a call, which is not made.
+    pub fn reply(&self, alloc: Global, call: &Call) -> Result<Reply, NoMemory>
+        requires { IsOfTable call.now }
+        ensures { IfOk result (λ answer. answer ≡ reply_of self.now call.now) }
+    {
+        let Outcome { reply, .. } = outcome_of(alloc, &self.table, call)?;
+        Ok(reply)
     }
 
     /// Makes a call, and answers its reply; none where the device answers the call, or nobody may make it.

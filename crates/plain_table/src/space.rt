@@ -91,7 +91,7 @@ fn run_begins(blocks: u32, group: &[Chunk], block: u32) -> bool
 }
 
 /// The block at which a chunk can be added.
-fn place_for_chunk(blocks: u32, group: &[Chunk]) -> Option<u32>
+pub(crate) fn place_for_chunk(blocks: u32, group: &[Chunk]) -> Option<u32>
     requires { blocks ≤ MAX_BLOCKS }
     ensures lowest { result ≡ chunk_place blocks group.now }
     ensures within { IfSome result (λ block. block < blocks) }

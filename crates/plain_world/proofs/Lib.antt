@@ -1,0 +1,4 @@
+pub mod Leading
+pub mod Moved
+pub mod Firsts
+pub mod Happening
