@@ -1,5 +1,5 @@
 -- What is left of a store over calls of it.
-use Rattle.std.proofs.Common.{◌≡◌, ℕ, ◌+◌, Bool, List, [], length, take, sym, ap, ◌∙◌, subst, arith}
+use Rattle.std.proofs.Common.{◌≡◌, ◌<◌, ℕ, ◌+◌, Bool, List, [], length, take, get_or, sym, ap, ◌∙◌, subst, arith}
 use Rattle.std.specs.Prelude.{IsTrue}
 use Rattle.std.proofs.lemmas.List.{length-drop, take_all}
 use Rattle.life_bytes.specs.declared.sector.Sector.{Sector}
@@ -16,7 +16,11 @@ use Rattle.log_store.specs.Steps.{Moves}
 use Rattle.life_limits.specs.declared.TheConstants.{MAX_RECORD_SECTORS}
 use Rattle.sound_image.specs.Encoding.{Layouts}
 use Rattle.whole_image.specs.Represents.{Represents}
-use Rattle.commit_history.specs.Carried.{CommitsCarry}
+use Rattle.commit_history.specs.Carried.{CommitsCarry, IsEncoding}
+use Rattle.log_batch.specs.Newest.{commit_images}
+use Rattle.log_image.specs.Overlay.{overlaid}
+use Rattle.life_bytes.specs.Sectors.{zero_sector}
+use Rattle.mount.proofs.Firsts.{first_under, same_superblock, some_sectors}
 use Rattle.mount.specs.Ending.{IsStoreOf}
 use Rattle.mount.specs.Prefixes.{IsPrefixLeft}
 use Rattle.mount.proofs.Going.{replays_earlier}
@@ -63,3 +67,23 @@ left_all laws known g t u layouts others head s new cells after image tells move
     let all : CommitsCarry g t layouts (take (moves.count + is.count) s.list) u others = subst (λ (l : List Commit). CommitsCarry g t layouts l u others) (sym whole) carried in
     subst (λ (n : ℕ). Represents image (closed u) (s.durable + 1 + n)) count
     (represented laws g t u layouts others (head + MAX_RECORD_SECTORS) s.durable (base_of s cells) image s.list of.encodes of.superblock left all)
+
+-- and the base encodes the table to which they lead
+pub base_then : Carries → (known : Bool) (g : Geometry) (t u : Table) (layouts others : Layouts) (s new : State) (cells after : List Cell) → IsTrue known
+    → Moves known s new cells after → IsStoreOf g t layouts s cells → new.list ≡ [] → CommitsCarry g t layouts s.list u others → IsStoreOf g u others new after
+base_then laws known g t u layouts others s new cells after tells moves of none carried =
+    let size = length-drop moves.count s.list in
+    let count : moves.count ≡ length s.list = omega (arith, moves.within, size, ap length moves.list, ap length none) in
+    let whole : take moves.count s.list ≡ s.list = ap (λ (n : ℕ). take n s.list) count ∙ take_all (length s.list) s.list (omega arith) in
+    let base : base_of new after ≡ overlaid (base_of s cells) (commit_images s.list) = moves.base tells ∙ ap (λ (l : List Commit). overlaid (base_of s cells) (commit_images l)) whole in
+    let encoding : IsEncoding g u others (overlaid (base_of s cells) (commit_images s.list)) = laws.all g t u layouts others (base_of s cells) s.list of.encodes carried in
+    let fit = laws.fits g t u layouts others (base_of s cells) s.list of.encodes.can carried in
+    let some = some_sectors g of.superblock.shape in
+    let long : 0 < length (base_of s cells) = omega (arith, some, of.encodes.can.size) in
+    let first = first_under (anchor_of g) (base_of s cells) (commit_images s.list) zero_sector long fit.1 in
+    record {
+      anchor = moves.anchor ∙ of.anchor;
+      ring = moves.ring ∙ of.ring;
+      superblock = same_superblock g (base_of s cells) (base_of new after) (ap (λ (l : List Sector). get_or l 0 zero_sector) base ∙ first) of.superblock;
+      encodes = subst (IsEncoding g u others) (sym base) encoding;
+    }

@@ -14,3 +14,11 @@ pub mod Keeps
 pub mod Loads
 pub mod Outcomes
 pub mod Inserts
+pub mod Clean
+pub mod Forced
+pub mod Starts
+pub mod AllFreed
+pub mod Nothing
+pub mod Ready
+pub mod Up
+pub mod Through

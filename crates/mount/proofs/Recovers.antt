@@ -58,7 +58,7 @@ LeftLaw = (g : Geometry) (old image : List Sector) (found : Found) (t : Table) (
 abbrev pub RecoveredLaw : Type 0
 RecoveredLaw = (g : Geometry) (old : List Sector) (found : Found) (t : Table) (c : ℕ) (start : Start) (cells : List Cell) → HasSuperblock g old
     → LogIsFound old (anchor_of g) g.ring found → HasGroupImages (anchor_of g) found → Represents old t c → IsOfReplay (anchor_of g) g.ring found old (as_read cells)
-    → start.next_commit ≡ found.next_commit → BeginsAnew (anchor_of g) g.ring (groups_found (anchor_of g) old found) cells start → IsRecovered old g start cells
+    → IsBehind g.ring found start → BeginsAnew (anchor_of g) g.ring (groups_found (anchor_of g) old found) cells start → IsRecovered old g start cells
 
 abbrev pub PositionsLaw : Type 0
 PositionsLaw = (g : Geometry) (image : List Sector) (found : Found) → HasSuperblock g image → LogIsFound image (anchor_of g) g.ring found
@@ -75,7 +75,7 @@ pub recovered_as : RecoveredLaw → (image read : List Sector) (g : Geometry) (t
     → BeginsAnew (anchor_of g) g.ring (groups_found (anchor_of g) read found) cells start → IsRecovered image g start cells
 recovered_as law image read g tables found start cells is same left behind anew =
     law g image found is.sound.table found.next_commit start cells is.sound.superblock is.log is.homes is.sound.represents
-    (subst (λ (l : List Sector). IsOfReplay (anchor_of g) g.ring found l (as_read cells)) same left) behind.number
+    (subst (λ (l : List Sector). IsOfReplay (anchor_of g) g.ring found l (as_read cells)) same left) behind
     (subst (λ (l : List Sector). BeginsAnew (anchor_of g) g.ring (groups_found (anchor_of g) l found) cells start) same anew)
 
 pub replayed_cause : PositionsLaw → (image : List Sector) (g : Geometry) (tables : Tables) (found : Found) (e : ReplayFault) → Inspected image g tables found

@@ -1,5 +1,5 @@
 -- What images represent that a replay leaves.
-use Rattle.std.proofs.Common.{◌≡◌, ◌≤◌, ◌*◌, ℕ, List, length, take, sym, ap, subst, ◌∙◌, arith}
+use Rattle.std.proofs.Common.{◌≡◌, ◌≤◌, ◌+◌, ◌*◌, ℕ, List, length, take, sym, ap, subst, ◌∙◌, arith}
 use Rattle.life_bytes.specs.declared.sector.Sector.{Sector}
 use Rattle.life_bytes.specs.Sectors.{zero_sector}
 use Rattle.disk_model.specs.Disk.{Cell, as_read}
@@ -16,7 +16,7 @@ use Rattle.log_image.specs.Log.{Log, groups_part}
 use Rattle.recovery.specs.declared.found.Found.{Found}
 use Rattle.recovery.specs.declared.start.Start.{Start}
 use Rattle.recovery.specs.Found.{HasGroupImages, LogIsFound}
-use Rattle.recovery.specs.Replay.{BeginsAnew, IsOfReplay, groups_found}
+use Rattle.recovery.specs.Replay.{BeginsAnew, IsBehind, IsOfReplay, groups_found}
 use Rattle.whole_image.specs.Damage.{HasFrontAndLog, groups_of, of_groups}
 use Rattle.whole_image.specs.Represents.{Represents}
 use Rattle.commit_history.specs.Carried.{IsEncoding}
@@ -113,20 +113,24 @@ groups_now laws g old new found t c b size read =
     }
 
 pub is_recovered : Lower → (g : Geometry) (old : List Sector) (found : Found) (t : Table) (c : ℕ) (start : Start) (cells : List Cell) → Before g old found t c
-    → IsOfReplay (anchor_of g) g.ring found old (as_read cells) → start.next_commit ≡ found.next_commit
+    → IsOfReplay (anchor_of g) g.ring found old (as_read cells) → IsBehind g.ring found start
     → BeginsAnew (anchor_of g) g.ring (groups_found (anchor_of g) old found) cells start → IsRecovered old g start cells
-is_recovered laws g old found t c start cells b left number anew =
+is_recovered laws g old found t c start cells b left behind anew =
     let is = table_is laws g old found t c b in
-    let next : c ≡ start.next_commit = is.1 ∙ sym number in
+    let next : c ≡ start.next_commit = is.1 ∙ sym behind.number in
     let groups = groups_now laws g old (as_read cells) found t c b (omega (arith, left.recovers.says.size)) anew.groups_read in
     record {
       table = t;
       layouts = groups.layouts;
       was = subst (Represents old t) next b.is;
+      log = b.log.log;
+      front = front g old found t c b;
       one = anew.one;
       superblock = superblock_stays g old (as_read cells) found t c b left;
       anchor = anew.anchor_is;
       below = anew.below;
+      position = behind.position ∙ ap (λ (n : ℕ). n + g.ring) b.log.found_is.end;
+      groups = anew.groups_read ∙ b.log.groups;
       encodes = groups.part;
       whole = groups.whole;
       represents = subst (Represents (as_read cells) t) next (represents_still laws g old (as_read cells) found t c b left);

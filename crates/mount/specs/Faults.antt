@@ -7,6 +7,8 @@ use Rattle.log_store.specs.declared.fault.StoreFault.TheVariants as store
 use Rattle.recovery.specs.declared.start.ReplayFault.{ReplayFault}
 use Rattle.recovery.specs.declared.start.ReplayFault.TheVariants as replay
 use Rattle.whole_image.specs.Damage.{IsFirstDamage, IsSound}
+use Rattle.group_ops.specs.declared.fault.LoadFault.{LoadFault}
+use Rattle.group_ops.specs.declared.fault.LoadFault.TheVariants as load
 use Rattle.inspect.specs.declared.fault.InspectFault.{InspectFault}
 use Rattle.inspect.specs.declared.fault.InspectFault.TheVariants as inspect
 use Rattle.mount.specs.Positions.{ArePositionsUsedUp}
@@ -26,6 +28,12 @@ abbrev pub of_replay : ReplayFault → MountFault
 of_replay replay.WriteFault = WriteFault
 of_replay replay.FlushFault = FlushFault
 of_replay replay.PositionEnd = PositionEnd
+
+-- a fault of a load
+abbrev pub of_load : LoadFault → MountFault
+of_load (load.Damaged rule sector) = Damaged rule sector
+of_load load.ReadFault = ReadFault
+of_load load.NoMemory = NoMemory
 
 -- a fault of a store
 abbrev pub of_store : StoreFault → EndFault

@@ -8,3 +8,6 @@ pub mod Left
 pub mod Still
 pub mod Kept
 pub mod KeptLaws
+pub mod Images
+pub mod Mounts
+pub mod Coming

@@ -1,8 +1,9 @@
 //! Why a mount did not come up, and why one did not end.
 
 ghost use Rattle.std.specs.Prelude.{◌≡◌};
-ghost use Rattle.mount.specs.Faults.{of_inspection, of_replay, of_store};
+ghost use Rattle.mount.specs.Faults.{of_inspection, of_load, of_replay, of_store};
 
+use group_ops::LoadFault;
 use inspect::InspectFault;
 use log_store::StoreFault;
 use recovery::ReplayFault;
@@ -59,6 +60,18 @@ impl From<ReplayFault> for MountFault {
             ReplayFault::WriteFault => MountFault::WriteFault,
             ReplayFault::FlushFault => MountFault::FlushFault,
             ReplayFault::PositionEnd => MountFault::PositionEnd,
+        }
+    }
+}
+
+impl From<LoadFault> for MountFault {
+    ghost from_gives = { λ fault e. e ≡ of_load fault };
+
+    fn from(fault: LoadFault) -> MountFault {
+        match fault {
+            LoadFault::Damaged { rule, sector } => MountFault::Damaged { rule, sector },
+            LoadFault::ReadFault => MountFault::ReadFault,
+            LoadFault::NoMemory => MountFault::NoMemory,
         }
     }
 }

@@ -30,7 +30,7 @@ use std::alloc::Global;
 use std::collections::BTreeMap;
 
 /// How many sectors the groups have.
-fn sectors_of(g: &Geometry) -> u64
+pub(crate) fn sectors_of(g: &Geometry) -> u64
     requires { IsGeometry g.now }
     ensures { result ≡ anchor_of g.now }
 {

@@ -1,6 +1,6 @@
-//! What is mounted, and what is handed back where a mount did not end.
+//! What is mounted, and what is handed back where a mount did not come up or did not end.
 
-use crate::fault::EndFault;
+use crate::fault::{EndFault, MountFault};
 use disk_model::Disk;
 use geometry::Geometry;
 use group_core::Group;
@@ -17,6 +17,15 @@ pub struct Mounted<D: Disk> {
     pub geometry: Geometry,
     /// What recovery freed.
     pub story: MountRecord,
+}
+
+/// A mount that did not come up.
+#[derive(Drop)]
+pub struct NotMounted<D: Disk> {
+    pub disk: D,
+    pub fault: MountFault,
+    /// Where the disk was recovered, so that its log begins anew: what was freed from then on. Of its changes maybe none is durable.
+    pub begun: Option<MountRecord>,
 }
 
 /// A mount that did not end.
