@@ -1,0 +1,16 @@
+pub mod Histories
+pub mod Rows
+pub mod Following
+pub mod Fewer
+pub mod Closing
+pub mod Groups
+pub mod Growing
+pub mod Left
+pub mod Asked
+pub mod Allowed
+pub mod GoOn
+pub mod Devices
+pub mod Beginning
+pub mod Comes
+pub mod Whole
+pub mod Synced
