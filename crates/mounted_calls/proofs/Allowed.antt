@@ -36,7 +36,7 @@ use Rattle.group_ops.specs.Represents.{IsGroupOf}
 use Rattle.group_ops.specs.Staging.{ChangeValue, IsCommitOf, Leads}
 use Rattle.group_ops.specs.Values.{StateValue}
 use Rattle.mounted_calls.specs.Calls.{IsOnGroup, NamesGroup, entry_of}
-use Rattle.mounted_calls.specs.Decisions.{ComesTo, FitsLog, IsCallIn, MaySettle, MayTake}
+use Rattle.mounted_calls.specs.Decisions.{CallComesTo, FitsLog, IsCallIn, MaySettle, MayTake}
 use Rattle.mounted_calls.specs.Running.{AreRunning}
 use Rattle.mounted_calls.proofs.Asked.{Holders, can_encode, inside_of, open_key, shape_of}
 use Rattle.mounted_calls.proofs.Closing.{Holdless, carries_closed}
@@ -124,7 +124,7 @@ commit_fits laws s d t u layouts others g geometry shape inside can leads (Some 
 
 pub may_be_made : Holders → Computed → Making → (known : Bool) (g : Geometry) (start t : Table) (layouts : Layouts) (story : MountRecord) (groups : List (GroupValue StateValue)) (s : State) (cells : List Cell) (k actor : ℕ) (made : Call)
     (group : GroupValue StateValue) (answer : Reply) (change : Option ChangeValue) → AreRunning known g start t layouts story groups s cells → IsCallIn g.groups k story.entries actor made
-    → slice_get groups k ≡ Some group → answer ≡ reply_of t made → ComesTo group.state t layouts made answer change
+    → slice_get groups k ≡ Some group → answer ≡ reply_of t made → CallComesTo group.state t layouts made answer change
     → MaySettle (entry_of actor made answer) change group.state × MayTake (anchor_of g) change
 may_be_made holders computed laws known g start t layouts story groups s cells k actor made group answer None are asks at told none =
     let is = are.groups_of.each k group at in

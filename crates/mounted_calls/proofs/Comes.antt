@@ -13,14 +13,14 @@ use Rattle.group_ops.specs.Calls.{Makes}
 use Rattle.group_ops.specs.Creating.{Creates}
 use Rattle.group_ops.specs.Staging.{ChangeValue}
 use Rattle.group_ops.specs.Values.{StateValue}
-use Rattle.mounted_calls.specs.Decisions.{ComesTo, Decides}
+use Rattle.mounted_calls.specs.Decisions.{CallComesTo, Decides}
 
 pub made_so : (s : StateValue) (t : Table) (layouts : Layouts) (key : Key) (made : Call) (change : ChangeValue) → is_change (Called made reply.Done) ≡ true → Makes s change t layouts key made
     → Decides s t layouts made (record { reply = reply.Done; noted = reply.Done; change = Some change })
 made_so s t layouts key made change changes makes = record {
   reply = sym makes.replies;
   again = sym makes.replies;
-  comes = subst (λ (answer : Reply). ComesTo s t layouts made answer (Some change)) (sym makes.replies) (changes, (_, makes.tells));
+  comes = subst (λ (answer : Reply). CallComesTo s t layouts made answer (Some change)) (sym makes.replies) (changes, (_, makes.tells));
 }
 
 pub created_so : (s : StateValue) (t : Table) (layouts : Layouts) (key : Key) (made : Call) (change : ChangeValue) → is_change (Called made (reply.Made key)) ≡ true → Creates s change t layouts key made
@@ -28,7 +28,7 @@ pub created_so : (s : StateValue) (t : Table) (layouts : Layouts) (key : Key) (m
 created_so s t layouts key made change changes creates = record {
   reply = sym creates.replies;
   again = sym creates.replies;
-  comes = subst (λ (answer : Reply). ComesTo s t layouts made answer (Some change)) (sym creates.replies) (changes, (_, creates.tells));
+  comes = subst (λ (answer : Reply). CallComesTo s t layouts made answer (Some change)) (sym creates.replies) (changes, (_, creates.tells));
 }
 
 pub refused_so : (s : StateValue) (t : Table) (layouts : Layouts) (made : Call) (answer : Reply) → is_change (Called made answer) ≡ false → reply_of t made ≡ answer
@@ -36,5 +36,5 @@ pub refused_so : (s : StateValue) (t : Table) (layouts : Layouts) (made : Call) 
 refused_so s t layouts made answer none is = record {
   reply = sym is;
   again = sym is;
-  comes = subst (λ (a : Reply). ComesTo s t layouts made a None) (sym is) none;
+  comes = subst (λ (a : Reply). CallComesTo s t layouts made a None) (sym is) none;
 }

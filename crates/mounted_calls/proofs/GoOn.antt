@@ -32,7 +32,7 @@ use Rattle.group_ops.specs.Values.{StateValue}
 use Rattle.orphan_frees.specs.Loaded.{IsGroupAt}
 use Rattle.run_history.specs.Mounts.{covered}
 use Rattle.mounted_calls.specs.Calls.{IsOnGroup, entry_of, roomless, with_call}
-use Rattle.mounted_calls.specs.Decisions.{ComesTo, IsCallIn, IsSettled, changing, noting, with_change, with_commit}
+use Rattle.mounted_calls.specs.Decisions.{CallComesTo, IsCallIn, IsSettled, changing, noting, with_change, with_commit}
 use Rattle.mounted_calls.specs.Running.{AreRunning, HasGroupsOf, IsLogOf, IsRecordOf}
 use Rattle.mounted_calls.proofs.Allowed.{Computed, permitted, unchanged}
 use Rattle.mounted_calls.proofs.Asked.{Holders, inside_of, open_key}
@@ -123,7 +123,7 @@ log_with known g start t layouts others story actor made answer s cells state d 
 
 pub made_on : Holders → Computed → AllChanges → Holdless → (known : Bool) (g : Geometry) (start t : Table) (layouts : Layouts) (story : MountRecord) (groups new : List (GroupValue StateValue)) (s : State) (cells : List Cell) (k actor : ℕ) (made : Call)
     (group : GroupValue StateValue) (answer : Reply) (change : Option ChangeValue) → AreRunning known g start t layouts story groups s cells → IsCallIn g.groups k story.entries actor made
-    → slice_get groups k ≡ Some group → answer ≡ reply_of t made → ComesTo group.state t layouts made answer change → IsSettled k (entry_of actor made answer) change groups new
+    → slice_get groups k ≡ Some group → answer ≡ reply_of t made → CallComesTo group.state t layouts made answer change → IsSettled k (entry_of actor made answer) change groups new
     → (others : Layouts) × AreRunning known g start (after_call t made answer) others (with_call story actor made answer) new (record s { list = with_change s.list change }) cells
 made_on holders computed all laws known g start t layouts story groups new s cells k actor made group answer None are asks at told none noted =
     let permits : Permits t made answer = subst (Permits t made) (sym told) (permitted holders computed known g start t layouts story groups s cells k actor made are asks) in

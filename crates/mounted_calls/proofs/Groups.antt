@@ -30,7 +30,7 @@ use Rattle.group_ops.specs.Values.{StateValue}
 use Rattle.orphan_frees.specs.Loaded.{IsGroupAt}
 use Rattle.life_ports.specs.declared.errors.NoMemory.{NoMemory}
 use Rattle.group_ops.specs.declared.delta.Delta.{Delta}
-use Rattle.mounted_calls.specs.Decisions.{HasRoom, changing, noting}
+use Rattle.mounted_calls.specs.Decisions.{GroupHasRoom, changing, noting}
 use Rattle.mounted_calls.specs.Calls.{entry_of, roomless, roomless_one, with_call}
 use Rattle.mounted_calls.specs.Running.{HasGroupsOf, entries_in, is_group, is_in_group}
 
@@ -236,7 +236,7 @@ roomless_put groups k new seen same = map-set roomless_one groups k new ∙ ap (
 pub at_index : (groups : List (GroupValue StateValue)) (k : ℕ) (x : GroupValue StateValue) → k < length groups → x ≡ get_or groups k x → slice_get groups k ≡ Some x
 at_index groups k x inside at = slice_get_read groups (length groups) k x refl inside at
 
-pub has_room : (groups : List (GroupValue StateValue)) (k : ℕ) (new : GroupValue StateValue) → (1 ≤ new.spare) × (1 ≤ new.state.room) → HasRoom (slice_set groups k new) k
+pub has_room : (groups : List (GroupValue StateValue)) (k : ℕ) (new : GroupValue StateValue) → (1 ≤ new.spare) × (1 ≤ new.state.room) → GroupHasRoom (slice_set groups k new) k
 has_room groups k new room = λ group at.
     let same = get_set_same groups k new group at in
     subst (λ (x : GroupValue StateValue). (1 ≤ x.spare) × (1 ≤ x.state.room)) (sym same) room

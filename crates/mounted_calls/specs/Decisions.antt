@@ -36,15 +36,15 @@ CanDecide s (call.Stat key) = HasRowOf s key
 CanDecide s _ = RepresentsGroup s
 
 -- A call with a reply is a change, and leads to the table after it; or it is none.
-abbrev pub ComesTo : StateValue → Table → Layouts → Call → Reply → Option ChangeValue → Type 0
-ComesTo s t layouts made answer None = is_change (Called made answer) ≡ false
-ComesTo s t layouts made answer (Some change) = (is_change (Called made answer) ≡ true) × ((others : Layouts) × Tells s change t layouts (after_call t made answer) others)
+abbrev pub CallComesTo : StateValue → Table → Layouts → Call → Reply → Option ChangeValue → Type 0
+CallComesTo s t layouts made answer None = is_change (Called made answer) ≡ false
+CallComesTo s t layouts made answer (Some change) = (is_change (Called made answer) ≡ true) × ((others : Layouts) × Tells s change t layouts (after_call t made answer) others)
 
 -- a decision has the table's reply, and what the call comes to
 pub record Decides (s : StateValue) (t : Table) (layouts : Layouts) (made : Call) (d : Decision) : Type 0 where
   pub reply : d.reply ≡ reply_of t made
   pub again : d.noted ≡ reply_of t made
-  pub comes : ComesTo s t layouts made (reply_of t made) d.change
+  pub comes : CallComesTo s t layouts made (reply_of t made) d.change
 
 -- A call of an actor in a group of so many: it names one, or the actor holds its key.
 pub record IsCallIn (groups k : ℕ) (entries : List Entry) (actor : ℕ) (made : Call) : Type 0 where
@@ -56,8 +56,8 @@ pub record IsCallIn (groups k : ℕ) (entries : List Entry) (actor : ℕ) (made 
 -- ---- what is left of the groups
 
 -- a group has room for one entry and one change
-abbrev pub HasRoom : List (GroupValue StateValue) → ℕ → Type 0
-HasRoom groups k = (group : GroupValue StateValue) → slice_get groups k ≡ Some group → (1 ≤ group.spare) × (1 ≤ group.state.room)
+abbrev pub GroupHasRoom : List (GroupValue StateValue) → ℕ → Type 0
+GroupHasRoom groups k = (group : GroupValue StateValue) → slice_get groups k ≡ Some group → (1 ≤ group.spare) × (1 ≤ group.state.room)
 
 -- a group with an entry more; and with its change made too
 abbrev pub noting : GroupValue StateValue → Entry → GroupValue StateValue

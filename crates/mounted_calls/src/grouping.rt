@@ -8,7 +8,7 @@ ghost use Rattle.group_core.specs.Value.{GroupValue};
 ghost use Rattle.group_ops.specs.Represents.{IsGroupOf};
 ghost use Rattle.group_ops.specs.Values.{StateValue};
 ghost use Rattle.mounted_calls.specs.Calls.{IsOnGroup, roomless};
-ghost use Rattle.mounted_calls.specs.Decisions.{CanDecide, Decides, HasRoom, IsChanged, IsNoted, MayChange, MayNote};
+ghost use Rattle.mounted_calls.specs.Decisions.{CanDecide, Decides, GroupHasRoom, IsChanged, IsNoted, MayChange, MayNote};
 
 use crate::deciding::decide;
 use crate::decision::Decision;
@@ -21,7 +21,7 @@ use life_table::{Call, Entry};
 pub(crate) fn reserve_in(groups: &mut Vec<Group<GroupState>>, group: usize) -> Result<(), NoMemory>
     requires { group < length groups.old.items }
     ensures same { roomless groups.new.items ≡ roomless groups.old.items }
-    ensures room { OnOk result (HasRoom groups.new.items group) }
+    ensures room { OnOk result (GroupHasRoom groups.new.items group) }
 {
     groups[group].reserve()
 }
@@ -46,7 +46,7 @@ pub(crate) fn decide_in(
 pub(crate) fn note_in(groups: &mut Vec<Group<GroupState>>, group: usize, entry: Entry)
     requires inside { group < length groups.old.items }
     requires may { (of : GroupValue StateValue) → slice_get groups.old.items group ≡ Some of → MayNote entry of.state }
-    requires room { HasRoom groups.old.items group }
+    requires room { GroupHasRoom groups.old.items group }
     ensures { IsNoted group entry groups.old.items groups.new.items }
 {
     groups[group].note(entry);
@@ -62,7 +62,7 @@ pub(crate) fn change_in(
     requires inside { group < length groups.old.items }
     requires may { (of : GroupValue StateValue) → slice_get groups.old.items group ≡ Some of → MayChange entry change.delta of.state }
     requires handed_out { is_none change.commit ≡ true }
-    requires room { HasRoom groups.old.items group }
+    requires room { GroupHasRoom groups.old.items group }
     ensures { IsChanged group entry change.delta groups.old.items groups.new.items }
 {
     groups[group].commit(entry, change);

@@ -9,7 +9,7 @@ ghost use Rattle.group_core.specs.GroupHistory.{call_group};
 ghost use Rattle.group_core.specs.Value.{GroupValue};
 ghost use Rattle.group_ops.specs.Values.{StateValue};
 ghost use Rattle.mounted_calls.specs.Calls.{IsOnGroup, roomless, with_call};
-ghost use Rattle.mounted_calls.specs.Decisions.{FitsLog, HasRoom, IsChanged, IsSettled, MayChange, MaySettle, MayTake, with_change, with_commit};
+ghost use Rattle.mounted_calls.specs.Decisions.{FitsLog, GroupHasRoom, IsChanged, IsSettled, MayChange, MaySettle, MayTake, with_change, with_commit};
 
 use crate::grouping::{change_in, note_in, reserve_in};
 use disk_model::Disk;
@@ -42,7 +42,7 @@ pub(crate) fn make_room<D: Disk>(mounted: &mut Mounted<D>, group: usize) -> Resu
     requires store { IsStore D.known D.cells D.sector_count mounted.old.store }
     requires inside { group < length mounted.old.groups.items }
     ensures groups { roomless mounted.new.groups.items ≡ roomless mounted.old.groups.items }
-    ensures room { OnOk result (HasRoom mounted.new.groups.items group) }
+    ensures room { OnOk result (GroupHasRoom mounted.new.groups.items group) }
     ensures store { IsStore D.known D.cells D.sector_count mounted.new.store }
     ensures state { state_of mounted.new.store ≡ state_of mounted.old.store }
     ensures disk { mounted.new.store.disk ≡ mounted.old.store.disk }
@@ -68,7 +68,7 @@ fn make_change<D: Disk>(
     requires inside { group < length groups.old.items }
     requires may { (of : GroupValue StateValue) → slice_get groups.old.items group ≡ Some of → MayChange entry change.delta of.state }
     requires fits { IsSomeAnd change.commit (FitsLog store.old.anchor) }
-    requires room { HasRoom groups.old.items group }
+    requires room { GroupHasRoom groups.old.items group }
     requires commits { 1 ≤ spare_commits store.old }
     requires images { MAX_IMAGES ≤ spare_images store.old }
     requires number { store.old.durable + length store.old.queue.items + 1 < 2 ^ 64 - 1 }
@@ -95,7 +95,7 @@ pub(crate) fn settle<D: Disk>(
     requires inside { group < length groups.old.items }
     requires may { (of : GroupValue StateValue) → slice_get groups.old.items group ≡ Some of → MaySettle entry change of.state }
     requires fits { MayTake store.old.anchor change }
-    requires room { HasRoom groups.old.items group }
+    requires room { GroupHasRoom groups.old.items group }
     requires commits { 1 ≤ spare_commits store.old }
     requires images { MAX_IMAGES ≤ spare_images store.old }
     requires number { store.old.durable + length store.old.queue.items + 1 < 2 ^ 64 - 1 }
