@@ -1,5 +1,5 @@
 -- All rows without links of a table freed, as a mount has it.
-use Rattle.std.proofs.Common.{◌≡◌, ◌≤◌, ◌++◌, ℕ, List, [], length, take, sym, ap, subst, ◌∙◌, arith}
+use Rattle.std.proofs.Common.{◌≡◌, ◌≤◌, ℕ, List, [], length, take, sym, ap, subst, ◌∙◌, arith}
 use Rattle.std.specs.Prelude.{All}
 use Rattle.std.proofs.lemmas.List.{take_all}
 use Rattle.life_limits.specs.declared.TheConstants.{MAX_ACTORS, MAX_NUMBERS}
@@ -7,7 +7,6 @@ use Rattle.life_bytes.specs.declared.sector.Sector.{Sector}
 use Rattle.geometry.specs.declared.shape.Geometry.{Geometry}
 use Rattle.life_table.specs.declared.key.Key.{Key}
 use Rattle.life_table.specs.declared.types.Entry.{Entry}
-use Rattle.life_table.specs.declared.types.MountRecord.{MountRecord}
 use Rattle.life_table.specs.declared.table.Table.{Table}
 use Rattle.life_table.specs.History.{After, closed, frees_of, recovered}
 use Rattle.log_record.specs.declared.image.Commit.{Commit}
@@ -15,11 +14,10 @@ use Rattle.sound_image.specs.Encoding.{CanEncode, Layouts}
 use Rattle.commit_history.specs.Carried.{CommitsCarry}
 use Rattle.group_core.specs.Value.{GroupValue}
 use Rattle.group_ops.specs.Values.{StateValue}
-use Rattle.orphan_frees.specs.Frees.{FreesAll, FreesFirst, freed_first, unlisted_first}
+use Rattle.orphan_frees.specs.Frees.{FreesAll, freed_first, unlisted_first}
 use Rattle.orphan_frees.specs.Loaded.{AreGroupsOf}
 use Rattle.orphan_frees.specs.Order.{freed_all, keys_to_free, unlisted_all}
 use Rattle.mount.specs.Coming.{AreFreed}
-use Rattle.mount.specs.Images.{after_frees}
 use Rattle.mount.specs.Mounts.{IsStoryOf, states_of}
 use Rattle.mount.specs.declared.freeing.Freed.{Freed}
 

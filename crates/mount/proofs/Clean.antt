@@ -8,19 +8,19 @@ use Rattle.geometry.specs.Places.{anchor_of, group_sectors}
 use Rattle.geometry.specs.Shape.{IsGeometry}
 use Rattle.life_table.specs.declared.table.Table.{Table}
 use Rattle.life_table.specs.History.{closed, orphans, recovered}
-use Rattle.log_image.specs.Log.{IsLog, Log, groups_part, replayed}
+use Rattle.log_image.specs.Log.{IsLog, Log, groups_part}
 use Rattle.log_image.specs.Overlay.{images_of}
 use Rattle.log_image.specs.OverlayLaws.{length-overlaid}
 use Rattle.recovery.specs.declared.start.Start.{Start}
 use Rattle.sound_image.specs.Damage.{AreGroupsSound}
 use Rattle.sound_image.specs.Encoding.{CanEncode, Layouts, encoded}
 use Rattle.sound_image.specs.Reading.{rows_of}
-use Rattle.whole_image.specs.Damage.{HasFrontAndLog, IsSound, groups_of, of_groups}
+use Rattle.whole_image.specs.Damage.{HasFrontAndLog, groups_of, of_groups}
 use Rattle.whole_image.specs.Represents.{Represents}
 use Rattle.commit_history.specs.Carried.{IsEncoding}
 use Rattle.orphan_frees.specs.Order.{keys_to_free}
-use Rattle.mount.specs.Coming.{IsAnew, IsClean}
-use Rattle.mount.specs.Images.{HasFreed, IsImageOf, IsOnTheWay, after_frees}
+use Rattle.mount.specs.Coming.{IsClean}
+use Rattle.mount.specs.Images.{IsImageOf, IsOnTheWay, after_frees}
 use Rattle.mount.specs.Recovered.{IsRecovered}
 use Rattle.mount.specs.Same.{RepresentSame}
 use Rattle.mount.proofs.Used.{Ones}

@@ -1,23 +1,19 @@
 -- What a store leaves in which the commits of frees waited.
-use Rattle.std.proofs.Common.{◌≡◌, ◌≤◌, ◌<◌, ◌+◌, ◌*◌, ℕ, Bool, List, [], Some, length, take, refl, sym, ap, subst, ◌∙◌, inl, inr, arith}
+use Rattle.std.proofs.Common.{◌≡◌, ◌≤◌, ◌<◌, ◌+◌, ◌*◌, ℕ, Bool, List, [], length, take, refl, sym, ap, subst, ◌∙◌, arith}
 use Rattle.std.specs.Prelude.{IsTrue}
 use Rattle.std.proofs.lemmas.List.{take_all}
-use Rattle.life_limits.specs.declared.TheConstants.{MAX_NUMBERS, MAX_RECORD_SECTORS, MAX_RING, MOUNT_LIMIT}
+use Rattle.life_limits.specs.declared.TheConstants.{MAX_RECORD_SECTORS, MOUNT_LIMIT}
 use Rattle.life_bytes.specs.declared.sector.Sector.{Sector}
 use Rattle.disk_model.specs.Disk.{Cell, Elapses, IsImage}
 use Rattle.disk_model.specs.DiskLaws.{Elapses-weaker}
 use Rattle.geometry.specs.declared.shape.Geometry.{Geometry}
 use Rattle.life_table.specs.declared.key.Key.{Key}
-use Rattle.life_table.specs.declared.types.MountRecord.{MountRecord}
 use Rattle.life_table.specs.declared.table.Table.{Table}
 use Rattle.life_table.specs.History.{closed, recovered}
 use Rattle.log_record.specs.declared.image.Commit.{Commit}
 use Rattle.log_store.specs.declared.store.Store.{Store}
-use Rattle.log_store.specs.declared.store.Job.TheVariants.{Force}
-use Rattle.log_store.specs.declared.store.Stage.{Stage}
-use Rattle.log_store.specs.declared.store.Stage.TheVariants as stage
 use Rattle.log_store.specs.OnDisk.{ReplaysTo, ReplaysUpTo}
-use Rattle.log_store.specs.Outcome.{EndsPast, Rises}
+use Rattle.log_store.specs.Outcome.{Rises}
 use Rattle.log_store.specs.State.{State, state_of}
 use Rattle.log_store.specs.Steps.{Goes, Moves}
 use Rattle.sound_image.specs.Encoding.{Layouts}
@@ -28,7 +24,7 @@ use Rattle.orphan_frees.specs.Order.{keys_to_free, unlisted_all}
 use Rattle.mount.specs.Coming.{AreFreed, IsDownOver, IsForceFault, IsLateFault, LeftByForce}
 use Rattle.mount.specs.Ending.{IsStoreOf}
 use Rattle.mount.specs.Images.{HasFreed, after_frees}
-use Rattle.mount.specs.Mounts.{IsBegunOver, IsMountOf, IsStoryOf}
+use Rattle.mount.specs.Mounts.{IsStoryOf}
 use Rattle.mount.specs.Prefixes.{IsPrefixLeft}
 use Rattle.mount.specs.declared.fault.MountFault.{MountFault}
 use Rattle.mount.specs.declared.fault.MountFault.TheVariants.{Damaged, ReadFault, WriteFault, FlushFault, PositionEnd, NoMemory}

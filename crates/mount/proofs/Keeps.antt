@@ -5,11 +5,10 @@ use Rattle.std.specs.Option.{option_map}
 use Rattle.std.specs.Ordering.{nat_cmp}
 use Rattle.std.specs.BTreeMap.{BTreeMap, get}
 use Rattle.std.proofs.lemmas.Bool.{and_parts, cases_eq, cases_lt, cond-false, cond-true, eqb-true, false≢true, leb-true, ltb-true, lt-ltb, le-ltb, ne_eqb}
-use Rattle.std.proofs.lemmas.List.{get_or-take, length-take}
+use Rattle.std.proofs.lemmas.List.{length-take}
 use Rattle.std.proofs.lemmas.List.FromFn.{fill_by_all, get_or-map-range_with_len}
 use Rattle.std.proofs.lemmas.Nat.{div-add-mod', div_below}
-use Rattle.std.specs.List.{range_with_len}
-use Rattle.life_limits.specs.declared.TheConstants.{BLOCK_SECTORS, CHUNK_INODES}
+use Rattle.life_limits.specs.declared.TheConstants.{BLOCK_SECTORS}
 use Rattle.life_bytes.specs.declared.sector.Sector.{Sector}
 use Rattle.life_bytes.specs.Sectors.{zero_sector}
 use Rattle.geometry.specs.declared.shape.Geometry.{Geometry}
@@ -19,11 +18,11 @@ use Rattle.inobt_leaf.specs.declared.chunk.ChunkRec.{ChunkRec}
 use Rattle.life_table.specs.declared.table.Inode.{Inode}
 use Rattle.life_table.specs.declared.table.Table.{Table}
 use Rattle.life_table.specs.Table.{Group, group_at, inode_in, start_of}
-use Rattle.sound_image.specs.Encoding.{CanEncode, Layouts, chunk_record, encoded, encoded_bytes, header_for, inode_sector, metadata, page_of, page_place}
+use Rattle.sound_image.specs.Encoding.{Layouts, chunk_record, encoded, encoded_bytes, header_for, inode_sector, metadata, page_of, page_place}
 use Rattle.sound_image.specs.Places.{bytes_at, sector_in}
 use Rattle.log_image.specs.Log.{groups_part}
 use Rattle.commit_history.specs.Carried.{IsEncoding}
-use Rattle.mount.specs.Kept.{Agrees, Has, HasChunk, HasGroup, HasRun, kept_image, kept_sector}
+use Rattle.mount.specs.Kept.{Agrees, Has, HasChunk, HasGroup, HasRun, kept_image}
 use Rattle.mount.specs.KeptLaws.{get_or-kept_image, length-kept_image}
 use Rattle.mount.proofs.Encodes.{bytes_same, bytes_taken}
 

@@ -1,16 +1,15 @@
 -- Mounts that did not come up and freed nothing.
-use Rattle.std.proofs.Common.{◌≡◌, ◌≤◌, ◌<◌, ◌+◌, ℕ, Bool, List, [], Option, None, Some, Err, length, take, refl, sym, ap, subst, ◌∙◌, arith}
-use Rattle.std.specs.Prelude.{IsTrue, IsSomeAnd}
-use Rattle.life_limits.specs.declared.TheConstants.{MAX_NUMBERS, MOUNT_LIMIT}
+use Rattle.std.proofs.Common.{◌≡◌, ◌≤◌, ◌<◌, ◌+◌, ℕ, Bool, List, [], Option, None, Some, Err, take, refl, sym, subst, arith}
+use Rattle.std.specs.Prelude.{IsSomeAnd}
+use Rattle.life_limits.specs.declared.TheConstants.{MOUNT_LIMIT}
 use Rattle.life_bytes.specs.declared.sector.Sector.{Sector}
 use Rattle.life_ports.specs.Faults.{NeverFalls}
-use Rattle.disk_model.specs.Disk.{Arming, Cell, Elapses, IsAfterWrites, IsImage, as_read}
+use Rattle.disk_model.specs.Disk.{Arming, Cell, IsAfterWrites, IsImage, as_read}
 use Rattle.disk_model.specs.DiskLaws.{IsAfterWrites-none, IsImage-one}
 use Rattle.geometry.specs.declared.shape.Geometry.{Geometry}
 use Rattle.life_table.specs.declared.key.Key.{Key}
 use Rattle.life_table.specs.declared.types.MountRecord.{MountRecord}
 use Rattle.life_table.specs.declared.table.Table.{Table}
-use Rattle.life_table.specs.History.{closed}
 use Rattle.recovery.specs.declared.start.Start.{Start}
 use Rattle.sound_image.specs.Encoding.{Layouts}
 use Rattle.whole_image.specs.Represents.{Represents}
@@ -18,7 +17,7 @@ use Rattle.orphan_frees.specs.Order.{keys_to_free}
 use Rattle.mount.specs.Coming.{Comes, IsClean, IsDownOver, IsLateFault}
 use Rattle.mount.specs.Faults.{IsDeviceCause}
 use Rattle.mount.specs.Images.{HasFreed, after_frees}
-use Rattle.mount.specs.Mounts.{IsBegun, IsBegunOver, IsStoryOf}
+use Rattle.mount.specs.Mounts.{IsBegun, IsStoryOf}
 use Rattle.mount.specs.declared.fault.MountFault.{MountFault}
 use Rattle.mount.specs.declared.mounted.NotMounted.{NotMounted}
 

@@ -1,8 +1,8 @@
 -- From a store that has just begun to one in which the frees wait.
 use Rattle.std.proofs.Common.{◌≡◌, ℕ, Bool, List, length, sym, ap, subst}
-use Rattle.std.specs.Prelude.{IsTrue, Result}
+use Rattle.std.specs.Prelude.{Result}
 use Rattle.life_bytes.specs.declared.sector.Sector.{Sector}
-use Rattle.disk_model.specs.Disk.{Arming, Cell, Elapses}
+use Rattle.disk_model.specs.Disk.{Cell, Elapses}
 use Rattle.disk_model.specs.DiskLaws.{Elapses-weaker}
 use Rattle.geometry.specs.declared.shape.Geometry.{Geometry}
 use Rattle.life_table.specs.declared.table.Table.{Table}
@@ -15,10 +15,9 @@ use Rattle.sound_image.specs.Encoding.{CanEncode, Layouts}
 use Rattle.group_ops.specs.Values.{StateValue}
 use Rattle.orphan_frees.specs.Loaded.{AreGroups, AreGroupsOf}
 use Rattle.orphan_frees.specs.Order.{keys_to_free}
-use Rattle.mount.specs.Coming.{AreFreed, Comes, ComesTo, IsAtStart, IsReady, LeftByForce, LeftByFrees}
+use Rattle.mount.specs.Coming.{AreFreed, ComesTo, IsAtStart, IsReady, LeftByForce, LeftByFrees}
 use Rattle.mount.specs.Ending.{IsStoreOf}
 use Rattle.mount.specs.Images.{HasFreed}
-use Rattle.mount.specs.Mounts.{disk_of}
 use Rattle.mount.specs.declared.freeing.Freed.{Freed}
 use Rattle.mount.specs.declared.mounted.Mounted.{Mounted}
 use Rattle.mount.specs.declared.mounted.NotMounted.{NotMounted}

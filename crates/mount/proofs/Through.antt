@@ -1,5 +1,5 @@
 -- What a mount comes to behind calls that were made before.
-use Rattle.std.proofs.Common.{◌≡◌, ◌≤◌, ◌+◌, ℕ, Bool, List, Option, None, Some, Result, Ok, Err, length, refl, sym, ap, subst, ◌∙◌, inl, inr, arith}
+use Rattle.std.proofs.Common.{◌≡◌, ◌≤◌, ℕ, Bool, List, Option, None, Some, Result, Ok, Err, length, refl, sym, subst, ◌∙◌, inl, inr, arith}
 use Rattle.std.specs.Prelude.{IsTrue, IfOk, IfErr, IsSomeAnd, OnOk}
 use Rattle.life_bytes.specs.declared.sector.Sector.{Sector}
 use Rattle.life_ports.specs.Faults.{NeverFalls}
@@ -13,7 +13,7 @@ use Rattle.life_table.specs.declared.table.Table.{Table}
 use Rattle.log_image.specs.Log.{groups_part}
 use Rattle.recovery.specs.declared.start.Start.{Start}
 use Rattle.sound_image.specs.Encoding.{Layouts}
-use Rattle.whole_image.specs.Damage.{IsSound, groups_of}
+use Rattle.whole_image.specs.Damage.{IsSound}
 use Rattle.commit_history.specs.Carried.{IsEncoding}
 use Rattle.group_ops.specs.Loading.{IsLoadCause, IsNoDamage}
 use Rattle.group_ops.specs.Values.{StateValue}
@@ -24,7 +24,7 @@ use Rattle.orphan_frees.specs.Order.{keys_to_free}
 use Rattle.mount.specs.Coming.{Comes, ComesTo, IsClean, IsDownOver, IsLateFault, LeftByBegin, LeftByRise}
 use Rattle.mount.specs.Faults.{IsDeviceCause, IsMountCause, of_load}
 use Rattle.mount.specs.Images.{HasFreed, IsImageOf, IsLeftInMount, IsOnTheWay}
-use Rattle.mount.specs.Mounts.{ArmsDown, IsBegun, IsBegunOver, IsLeftDown, IsMountOf, IsUp, disk_of}
+use Rattle.mount.specs.Mounts.{ArmsDown, IsBegun, IsBegunOver, IsLeftDown, IsMountOf, disk_of}
 use Rattle.mount.specs.Positions.{ArePositionsUsedUp}
 use Rattle.mount.specs.Recovered.{IsRecovered}
 use Rattle.mount.specs.Same.{IsLeftBy, RepresentSame}

@@ -1,6 +1,5 @@
 -- A mount that came up, or one whose force failed, whatever tells of the disk.
-use Rattle.std.proofs.Common.{◌≡◌, ◌≤◌, ◌<◌, ◌+◌, ◌*◌, ℕ, Bool, List, [], Some, Err, length, refl, sym, ap, subst, ◌∙◌, arith}
-use Rattle.std.specs.Prelude.{IsTrue}
+use Rattle.std.proofs.Common.{◌≡◌, ◌≤◌, ◌<◌, ◌+◌, ◌*◌, ℕ, Bool, List, [], Some, Err, length, sym, ap, subst, ◌∙◌, arith}
 use Rattle.life_limits.specs.declared.TheConstants.{MAX_RECORD_SECTORS, MOUNT_LIMIT}
 use Rattle.life_bytes.specs.declared.sector.Sector.{Sector}
 use Rattle.life_ports.specs.Faults.{NeverFalls}
@@ -9,20 +8,18 @@ use Rattle.geometry.specs.declared.shape.Geometry.{Geometry}
 use Rattle.life_table.specs.declared.key.Key.{Key}
 use Rattle.life_table.specs.declared.types.MountRecord.{MountRecord}
 use Rattle.life_table.specs.declared.table.Table.{Table}
-use Rattle.life_table.specs.History.{recovered}
 use Rattle.log_store.specs.declared.store.Store.{Store}
 use Rattle.log_store.specs.declared.store.Job.TheVariants.{Idle}
 use Rattle.log_store.specs.declared.store.Stage.TheVariants.{Free}
 use Rattle.log_store.specs.Outcome.{Rises}
 use Rattle.log_store.specs.State.{state_of}
 use Rattle.log_store.specs.Steps.{Goes}
-use Rattle.orphan_frees.specs.Order.{keys_to_free, unlisted_all}
+use Rattle.orphan_frees.specs.Order.{keys_to_free}
 use Rattle.mount.specs.Coming.{Comes, IsReady}
 use Rattle.mount.specs.Faults.{IsDeviceCause}
 use Rattle.mount.specs.Mounts.{IsBegun, IsStoryOf, IsUp}
 use Rattle.mount.specs.declared.fault.MountFault.{MountFault}
 use Rattle.mount.specs.declared.freeing.Freed.{Freed}
-use Rattle.mount.specs.declared.mounted.NotMounted.{NotMounted}
 use Rattle.mount.proofs.Bringing.{all_durable}
 use Rattle.mount.proofs.Forced.{head_after}
 

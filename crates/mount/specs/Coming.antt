@@ -1,5 +1,5 @@
 -- The steps of a mount behind the recovery of its disk.
-use Rattle.std.specs.Prelude.{◌≡◌, ◌≤◌, ◌<◌, ◌+◌, ⊤, ℕ, Bool, IsTrue, List, [], Result, Ok, Err, IfOk, IfErr, IsSomeAnd, Some, All, length, take}
+use Rattle.std.specs.Prelude.{◌≡◌, ◌≤◌, ◌<◌, ◌+◌, ⊤, ℕ, Bool, List, [], Result, Ok, Err, IfOk, IfErr, IsSomeAnd, Some, All, length, take}
 use Rattle.life_limits.specs.declared.TheConstants.{MAX_NUMBERS, MOUNT_LIMIT}
 use Rattle.life_bytes.specs.declared.sector.Sector.{Sector}
 use Rattle.life_ports.specs.Faults.{NeverFalls}

@@ -1,5 +1,5 @@
 -- Some sectors of an image that are kept in memory, and the sectors that they stand for.
-use Rattle.std.specs.Prelude.{◌≡◌, ◌<◌, ◌+◌, ◌*◌, ℕ, List, Some, IfSome, IsSome, map, slice_get, unwrap_or}
+use Rattle.std.specs.Prelude.{◌≡◌, ◌<◌, ◌+◌, ℕ, List, Some, IfSome, IsSome, map, unwrap_or}
 use Rattle.std.specs.List.{range_with_len}
 use Rattle.std.specs.Ordering.{nat_cmp}
 use Rattle.std.specs.BTreeMap.{BTreeMap, get}
@@ -8,7 +8,6 @@ use Rattle.life_bytes.specs.declared.sector.Sector.{Sector}
 use Rattle.life_bytes.specs.Sectors.{zero_sector}
 use Rattle.geometry.specs.declared.shape.Geometry.{Geometry}
 use Rattle.geometry.specs.Places.{group_sectors}
-use Rattle.inobt_leaf.specs.declared.chunk.ChunkRec.{ChunkRec}
 use Rattle.life_table.specs.declared.table.Table.{Table}
 use Rattle.life_table.specs.Table.{group_at}
 use Rattle.sound_image.specs.Encoding.{Layouts, metadata}

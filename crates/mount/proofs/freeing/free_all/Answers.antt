@@ -1,4 +1,4 @@
-use Rattle.std.proofs.Common.{◌≡◌, List, [], subst}
+use Rattle.std.proofs.Common.{List, [], subst}
 use Rattle.log_record.specs.declared.image.Commit.{Commit}
 use Rattle.life_table.specs.declared.types.Entry.{Entry}
 use Rattle.group_ops.specs.Values.{StateValue}

@@ -3,7 +3,6 @@ use Rattle.life_bytes.specs.declared.sector.Sector.{Sector}
 use Rattle.life_table.specs.Table.{group_at}
 use Rattle.sound_image.specs.Encoding.{chunk_record, encoded}
 use Rattle.group_ops.specs.Loading.{Shows}
-use Rattle.mount.specs.Kept.{HasRun}
 use Rattle.mount.proofs.Sights.{page_read}
 use Rattle.mount.proofs.keeping.keep_leaf.Goals as goal
 

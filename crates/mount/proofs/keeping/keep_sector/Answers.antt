@@ -1,4 +1,3 @@
-use Rattle.std.proofs.Common.{sym, subst, ◌∙◌}
 use Rattle.mount.proofs.Inserts.{one_agrees, one_grows, one_has}
 use Rattle.mount.proofs.Sights.{shown_at}
 use Rattle.mount.proofs.keeping.keep_sector.Goals as goal

@@ -1,11 +1,10 @@
-use Rattle.std.proofs.Common.{◌≡◌, ◌≤◌, ◌<◌, ℕ, List, IfOk, length, ap, sym, subst, ◌∙◌, arith}
+use Rattle.std.proofs.Common.{◌≡◌, ℕ, List, IfOk, length, ap, sym, subst, ◌∙◌, arith}
 use Rattle.std.specs.BTreeMap.{BTreeMap}
 use Rattle.life_bytes.specs.declared.sector.Sector.{Sector}
 use Rattle.disk_model.specs.Disk.{as_read}
 use Rattle.disk_model.specs.DiskLaws.{length-as_read}
-use Rattle.geometry.specs.Places.{anchor_of}
 use Rattle.commit_history.specs.Carried.{IsEncoding}
-use Rattle.mount.specs.Kept.{Agrees, HasGroup, kept_image}
+use Rattle.mount.specs.Kept.{Agrees}
 use Rattle.mount.proofs.Keeps.{kept_encodes, whole_encodes}
 use Rattle.mount.proofs.Outcomes.{IfOk-two}
 use Rattle.mount.proofs.loading.keep_disk.Goals as goal

@@ -1,4 +1,4 @@
-use Rattle.std.proofs.Common.{◌≡◌, List, length, refl, ap, sym, subst, ◌∙◌, arith}
+use Rattle.std.proofs.Common.{List, refl, ap, subst, ◌∙◌, arith}
 use Rattle.life_bytes.specs.declared.sector.Sector.{Sector}
 use Rattle.geometry.specs.Places.{anchor_of}
 use Rattle.sound_image.specs.Damage.{AreGroupsSound}

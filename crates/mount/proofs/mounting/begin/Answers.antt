@@ -1,4 +1,4 @@
-use Rattle.std.proofs.Common.{◌≡◌, ◌≤◌, ap, sym, subst, ◌∙◌, arith}
+use Rattle.std.proofs.Common.{ap, sym, subst, ◌∙◌, arith}
 use Rattle.disk_model.specs.Disk.{Elapses, IsImage}
 use Rattle.disk_model.specs.DiskLaws.{Elapses-none}
 use Rattle.geometry.specs.Places.{anchor_of}

@@ -1,4 +1,4 @@
-use Rattle.std.proofs.Common.{◌≡◌, ◌≤◌, ap, sym, subst, ◌∙◌, arith}
+use Rattle.std.proofs.Common.{ap, sym, subst, ◌∙◌, arith}
 use Rattle.disk_model.specs.Disk.{IsImage}
 use Rattle.group_ops.specs.Loading.{IsLoadCause}
 use Rattle.mount.specs.Coming.{IsAnew, IsLateFault}

@@ -1,5 +1,4 @@
-use Rattle.std.proofs.Common.{◌≡◌, ◌+◌, Some, refl, ap, sym, subst, ◌∙◌, arith}
-use Rattle.disk_model.specs.Disk.{IsImage}
+use Rattle.std.proofs.Common.{refl, subst}
 use Rattle.life_table.specs.History.{recovered}
 use Rattle.log_store.specs.State.{state_of}
 use Rattle.orphan_frees.specs.Order.{keys_to_free, unlisted_all}

@@ -1,4 +1,4 @@
-use Rattle.std.proofs.Common.{◌≡◌, ◌+◌, ap, sym, subst, ◌∙◌, arith}
+use Rattle.std.proofs.Common.{◌+◌, ap, sym, subst, ◌∙◌, arith}
 use Rattle.disk_model.specs.Disk.{Elapses, IsImage}
 use Rattle.disk_model.specs.DiskLaws.{Elapses-none}
 use Rattle.log_store.specs.State.{state_of}

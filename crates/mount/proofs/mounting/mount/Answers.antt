@@ -1,8 +1,7 @@
-use Rattle.std.proofs.Common.{◌≡◌, ◌≤◌, ap, sym, subst, ◌∙◌, arith}
+use Rattle.std.proofs.Common.{◌∙◌, arith}
 use Rattle.disk_model.specs.Disk.{as_read}
 use Rattle.disk_model.specs.DiskLaws.{Elapses-weaker}
 use Rattle.whole_image.specs.Damage.{IsSound}
-use Rattle.mount.specs.Coming.{Comes}
 use Rattle.mount.specs.Images.{IsLeftInMount}
 use Rattle.mount.specs.Mounts.{disk_of}
 use Rattle.mount.specs.Positions.{ArePositionsUsedUp}
