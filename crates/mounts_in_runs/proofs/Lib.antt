@@ -1,3 +1,4 @@
 mod Behind
 mod Freeing
 mod Refused
+mod Running

@@ -1,17 +1,18 @@
 // Laws of the definitions. Each is the contract of a function that does nothing but call the laws that its own rests on.
 
-ghost use Rattle.std.specs.Prelude.{◌≡◌, ◌≤◌, ◌++◌, ◌∷◌, [], ℕ, List, Result, Err, length};
+ghost use Rattle.std.specs.Prelude.{◌≡◌, ◌++◌, ◌∷◌, [], ℕ, List, Err, IsTrue, length};
 ghost use Rattle.life_bytes.specs.declared.sector.Sector.{Sector};
 ghost use Rattle.disk_model.specs.Disk.{Cell, IsImage, as_read};
 ghost use Rattle.geometry.specs.declared.shape.Geometry.{Geometry};
 ghost use Rattle.life_table.specs.declared.types.MountRecord.{MountRecord};
 ghost use Rattle.life_table.specs.declared.table.Table.{Table};
+ghost use Rattle.life_table.specs.History.{recovered};
 ghost use Rattle.sound_image.specs.Encoding.{Layouts};
 ghost use Rattle.whole_image.specs.Represents.{Represents};
 ghost use Rattle.orphan_frees.specs.Order.{keys_to_free};
 ghost use Rattle.mount.specs.Images.{IsImageOf};
 ghost use Rattle.mount.specs.Left.{IsHandedBack};
-ghost use Rattle.mount.specs.Mounts.{IsBegunOver, IsMountOf, IsStoryOf};
+ghost use Rattle.mount.specs.Mounts.{IsBegunOver, IsMountOf, IsStoryOf, IsUp};
 ghost use Rattle.mount.specs.declared.fault.MountFault.{MountFault};
 ghost use Rattle.mount.specs.declared.mounted.Mounted.{Mounted};
 ghost use Rattle.mount.specs.declared.recovering.Recovery.{Recovery};
@@ -19,9 +20,11 @@ ghost use Rattle.run_history.specs.Answers.{IsFresh};
 ghost use Rattle.run_history.specs.CrashSafe.{CrashSafe, IsPrefixLeft};
 ghost use Rattle.run_history.specs.Mounts.{MountStory, left, never_up};
 ghost use Rattle.run_history.specs.NextMount.{Follow, Recovers};
+ghost use Rattle.mounted_calls.specs.Running.{IsRunning};
 ghost use Rattle.mounts_in_runs.specs.Stories.{BeginsWhere, mount_of};
 
 use disk_model::Disk;
+use mounted_calls::fresh_mounts_run;
 use orphan_frees::{recovery_frees_in_order, recovery_goes_by_bucket};
 use run_history::runs_join;
 use whole_image::{images_represent_one_table, sound_images_represent_a_table};
@@ -64,6 +67,18 @@ pub fn refused_mounts_leave_prefixes()
     recovery_frees_in_order();
     recovery_goes_by_bucket();
     sound_images_represent_a_table();
+}
+
+/// A law: a mount that came up is one on which calls go on from the recovered table: over an image of a table from that one, and where nothing tells of the disk from some table.
+pub fn mounts_that_came_up_run<D: Disk>()
+    ensures known { (g : Geometry) (t : Table) (layouts : Layouts) (next : ℕ) (image : List Sector) (mounted : Mounted D) → IsImageOf g t layouts next image
+        → IsMountOf D.cells g t layouts next mounted → IsUp D.known D.cells D.sector_count mounted → IsRunning D.known D.cells D.sector_count t (recovered t) mounted }
+    ensures unknown { (mounted : Mounted D) → ¬ IsTrue D.known → IsUp D.known D.cells D.sector_count mounted
+        → (start : Table) × IsRunning D.known D.cells D.sector_count start (recovered start) mounted }
+{
+    recovery_frees_in_order();
+    sound_images_represent_a_table();
+    fresh_mounts_run();
 }
 
 /// A law: a run stays crash safe over a mount that was refused before it began.

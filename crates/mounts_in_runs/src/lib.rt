@@ -4,6 +4,6 @@
 mod laws;
 
 pub use laws::{
-    mounts_begin_where_runs_stand, mounts_leave_prefixes, refused_mounts_leave_prefixes,
-    unbegun_mounts_leave_runs,
+    mounts_begin_where_runs_stand, mounts_leave_prefixes, mounts_that_came_up_run,
+    refused_mounts_leave_prefixes, unbegun_mounts_leave_runs,
 };
