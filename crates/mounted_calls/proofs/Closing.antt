@@ -16,9 +16,8 @@ use Rattle.commit_history.specs.Carried.{CommitCarries}
 use Rattle.group_ops.specs.declared.delta.Delta.{Delta}
 use Rattle.group_ops.specs.Changes.{changed_state}
 use Rattle.group_ops.specs.Represents.{IsGroupOf}
-use Rattle.group_ops.specs.Staging.{IsCommitOf, Leads, touched}
+use Rattle.group_ops.specs.Staging.{IsCommitOf, Leads}
 use Rattle.group_ops.specs.Values.{StateValue}
-use Rattle.mounted_calls.proofs.Fewer.{few_images}
 
 -- what is used of the crates below: holds are passed over by what encodes a table
 pub record Holdless : Type 0 where
@@ -87,7 +86,7 @@ carries_closed laws s d t u layouts others commit inside leads of =
       only = subst (λ (k : ℕ). ChangesOnly k (closed t) layouts (closed u) others) (sym of.group) (only_closed s.group t u layouts others leads.only);
       images = subst (λ (k : ℕ). AreImagesOf g k layouts (group_at (closed t) k) others (group_at (closed u) k) commit.images) (sym of.group)
           (images_closed laws g s.group layouts others t u commit.images of.images);
-      few = few_images g s.group layouts others (group_at t s.group) (group_at u s.group) (touched s.page d) commit.images leads.enough of.images;
+      few = of.few;
       next = λ sectors can. record {
         shape = can.shape;
         table = laws.tables u after.table;

@@ -1,7 +1,6 @@
 pub mod Histories
 pub mod Rows
 pub mod Following
-pub mod Fewer
 pub mod Closing
 pub mod Groups
 pub mod Growing
