@@ -1,15 +1,10 @@
 -- What the action of a step says of the store before it, and what it makes of the store's places and its job.
-use Rattle.std.proofs.Common.{Bool, true, false, Result, Ok, Err, ◌≡◌, ◌≢◌, ◌+◌, ◌-◌, ◌^◌, ◌<◌, ◌≤◌, ◌⊎◌, ℕ, cond, List, [], ◌∷◌, length, drop, refl, sym, ap, ◌∙◌, subst, inl, inr, arith}
+use Rattle.std.proofs.Common.{Bool, true, false, ◌≡◌, ◌≢◌, ◌+◌, ◌-◌, ◌^◌, ◌<◌, ◌≤◌, ◌⊎◌, ℕ, cond, List, [], ◌∷◌, length, refl, sym, ap, ◌∙◌, subst, inl, inr, arith}
 use Rattle.std.specs.Prelude.{nat_le, nat_lt}
 use Rattle.std.proofs.lemmas.Bool.Decides.{nat_tests}
 use Rattle.log_record.specs.declared.image.Image.{Image}
 use Rattle.log_record.specs.declared.image.Commit.{Commit}
 use Rattle.log_record.specs.Encoding.{sector_count}
-use Rattle.log_store.specs.declared.fault.Progress.{Progress}
-use Rattle.log_store.specs.declared.fault.Progress.TheVariants.{Ended, More}
-use Rattle.log_store.specs.declared.fault.StoreFault.{StoreFault}
-use Rattle.log_store.specs.declared.fault.StoreFault.TheVariants.{WriteFault, FlushFault, PositionEnd}
-use Rattle.log_store.specs.declared.fault.StoreFault.TheVariants as faults
 use Rattle.log_store.specs.declared.store.Job.{Job}
 use Rattle.log_store.specs.declared.store.Job.TheVariants.{Clear, Force, Home, Idle, Nothing, WriteBack}
 use Rattle.log_store.specs.declared.store.Stage.{Stage}

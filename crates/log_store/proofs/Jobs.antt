@@ -1,19 +1,11 @@
 -- What whole jobs move, from their steps.
-use Rattle.std.proofs.Common.{Bool, Result, ◌≡◌, ◌+◌, ◌-◌, ◌<◌, ℕ, List, length, refl, sym, ap, ◌∙◌, subst, inr, arith, Ok, Err}
+use Rattle.std.proofs.Common.{Bool, Result, ℕ, List, refl, ap, ◌∙◌, arith, Ok, Err}
 use Rattle.disk_model.specs.Disk.{Arming, Cell, IsAfterWrites}
-use Rattle.log_record.specs.Encoding.{sector_count}
-use Rattle.log_record.specs.declared.image.Image.{Image}
 use Rattle.log_store.specs.declared.fault.Progress.{Progress}
-use Rattle.log_store.specs.declared.fault.Progress.TheVariants.{Ended, More}
 use Rattle.log_store.specs.declared.fault.StoreFault.{StoreFault}
-use Rattle.log_store.specs.declared.store.Job.{Job}
-use Rattle.log_store.specs.declared.store.Job.TheVariants.{Clear, Force, Home, Idle, Nothing, WriteBack}
-use Rattle.log_store.specs.declared.store.Stage.{Stage}
-use Rattle.log_store.specs.declared.store.Stage.TheVariants.{Cover, Down, Free, Half, Record}
 use Rattle.log_store.specs.Calls.{DeviceCall, Made, flush, none, write}
 use Rattle.log_store.specs.Outcome.{Rises, PositionsStay}
 use Rattle.log_store.specs.State.{State}
-use Rattle.log_store.specs.Steps.{JobAsks, JobFits}
 
 pub stays_none : (s : State) → PositionsStay s s
 stays_none s = record { head = refl; tail = refl; durable = refl }

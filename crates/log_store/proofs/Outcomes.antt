@@ -1,11 +1,9 @@
 -- What a step comes to: the positions, the goal of its job, what a job has reached at its end, and its faults.
-use Rattle.std.proofs.Common.{Bool, true, false, Result, Ok, Err, ◌≡◌, ◌≢◌, ◌+◌, ◌-◌, ◌*◌, ◌^◌, ◌<◌, ◌≤◌, ◌⊎◌, ℕ, List, [], ◌∷◌, length, drop, refl, sym, ap, ◌∙◌, subst, inl, inr, arith}
+use Rattle.std.proofs.Common.{Result, Ok, Err, ◌≡◌, ◌+◌, ◌≤◌, ◌⊎◌, ℕ, List, [], ◌∷◌, length, drop, refl, sym, ap, ◌∙◌, subst, inl, inr, arith}
 use Rattle.life_bytes.specs.declared.sector.Sector.{Sector}
-use Rattle.life_limits.specs.declared.TheConstants.{MAX_IMAGES, MAX_RECORD_SECTORS}
 use Rattle.life_ports.specs.Faults.{Rose}
 use Rattle.log_record.specs.declared.image.Image.{Image}
 use Rattle.log_record.specs.declared.image.Commit.{Commit}
-use Rattle.log_record.specs.Encoding.{sector_count}
 use Rattle.log_store.specs.declared.fault.Progress.{Progress}
 use Rattle.log_store.specs.declared.fault.Progress.TheVariants.{Ended, More}
 use Rattle.log_store.specs.declared.fault.StoreFault.{StoreFault}
@@ -19,7 +17,7 @@ use Rattle.log_store.specs.Calls.{Flushes, Writes}
 use Rattle.log_store.specs.Actions
 use Rattle.log_store.specs.Actions.{Action, CountsFaults, IsGathered, IsStepAnswer, MaySucceed, call_of, cover_progress, done_state, failed_state, gathers, home_progress, job_after, left_progress, next_job, progress_of, state_after}
 use Rattle.log_store.specs.Landed.{covered_state}
-use Rattle.log_store.specs.Outcome.{Covered, EndsPast, IsDone, IsFault, PositionsStay, Rises, covers_of, goal_of}
+use Rattle.log_store.specs.Outcome.{EndsPast, IsDone, IsFault, PositionsStay, Rises, covers_of, goal_of}
 use Rattle.log_store.specs.State.{State}
 use Rattle.log_store.specs.Steps.{IsShort, JobAsks, JobFits, StageFits}
 use Rattle.log_store.proofs.Comes.{Comes, From}

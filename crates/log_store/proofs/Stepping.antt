@@ -1,7 +1,6 @@
 -- What one step of a store comes to.
-use Rattle.std.proofs.Common.{Bool, Result, Ok, Err, ◌≡◌, ◌≢◌, ◌+◌, ◌-◌, ◌^◌, ◌<◌, ◌≤◌, ◌⊎◌, ℕ, List, [], length, refl, sym, ap, ◌∙◌, subst, inl, inr, arith, false}
-use Rattle.std.specs.Prelude.{IsTrue, nat_lt}
-use Rattle.life_ports.specs.Faults.{NeverFalls, Rose}
+use Rattle.std.proofs.Common.{Bool, Result, Ok, Err, ◌≡◌, ◌+◌, ◌^◌, ◌≤◌, ◌⊎◌, ℕ, List, length, refl, sym, ap, ◌∙◌, subst, inl, inr, arith}
+use Rattle.std.specs.Prelude.{IsTrue}
 use Rattle.life_ports.proofs.Faults.{Rose-after}
 use Rattle.life_bytes.specs.declared.sector.Sector.{Sector}
 use Rattle.disk_model.specs.Disk.{Arming, Cell, IsImage, flushed}
@@ -26,7 +25,7 @@ use Rattle.log_store.specs.OnDisk.{Covers, HasCover, HoldsAtStage, cover_record,
 use Rattle.log_store.specs.Outcome.{CoverEndsPast, Covered, EndsPast, EndsPastAt, IsDone, IsFault, PositionsStay, Rises, covers_of, goal_of}
 use Rattle.log_store.specs.State.{State, state_of}
 use Rattle.log_store.specs.Steps.{IsConsistent, IsStore, JobFits, StageFits}
-use Rattle.log_store.proofs.Comes.{Comes, From, comes_from}
+use Rattle.log_store.proofs.Comes.{Comes, comes_from}
 use Rattle.log_store.proofs.Done.{all_home, past_end}
 use Rattle.log_store.proofs.Ends.{fits_gathered}
 use Rattle.log_store.proofs.Outcomes.{asks_gathered, back_stays, clear_pays, done_at_end, err_stays, fails, goal_goes_on, home_last, home_stays, not_at_end, rises_after}

@@ -61,6 +61,7 @@ impl<D: Disk> Store<D> {
         ensures sectors { D.sector_count self.new.disk ≡ D.sector_count self.old.disk }
         ensures up { OnOk result (down_count self.new.stage ≡ None) }
         ensures only_down { (fault : ℕ) → result ≡ Err (StoreFault.Down fault) → self.old.stage ≡ Down fault }
+        ensures down_fault { (fault : ℕ) → result ≡ Err (StoreFault.Down fault) → self.new.stage ≡ Down fault }
         ensures idle { self.new.job ≡ Idle }
         ensures all { OnOk result (self.new.queue.items ≡ []) }
         ensures number { IfOk result (λ number. number ≡ self.new.durable) }
@@ -97,6 +98,7 @@ impl<D: Disk> Store<D> {
         ensures sectors { D.sector_count self.new.disk ≡ D.sector_count self.old.disk }
         ensures up { OnOk result (down_count self.new.stage ≡ None) }
         ensures only_down { (fault : ℕ) → result ≡ Err (StoreFault.Down fault) → self.old.stage ≡ Down fault }
+        ensures down_fault { (fault : ℕ) → result ≡ Err (StoreFault.Down fault) → self.new.stage ≡ Down fault }
         ensures idle { self.new.job ≡ Idle }
         ensures home { OnOk result ((self.new.dirty.images ≡ []) × (self.new.unflushed ≡ false)) }
         ensures stays { PositionsStay (state_of self.old) (state_of self.new) }
@@ -127,6 +129,7 @@ impl<D: Disk> Store<D> {
         ensures sectors { D.sector_count self.new.disk ≡ D.sector_count self.old.disk }
         ensures up { OnOk result (down_count self.new.stage ≡ None) }
         ensures only_down { (fault : ℕ) → result ≡ Err (StoreFault.Down fault) → self.old.stage ≡ Down fault }
+        ensures down_fault { (fault : ℕ) → result ≡ Err (StoreFault.Down fault) → self.new.stage ≡ Down fault }
         ensures idle { self.new.job ≡ Idle }
         ensures covered { OnOk result (Covered (state_of self.old) (state_of self.new)) }
         // The last record of whatever a crash leaves is the cover, which stands alone.

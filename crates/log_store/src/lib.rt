@@ -8,6 +8,7 @@ mod home;
 mod job;
 mod laws;
 mod record;
+mod stops;
 mod store;
 mod take;
 

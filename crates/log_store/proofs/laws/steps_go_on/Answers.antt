@@ -1,11 +1,9 @@
 use Rattle.log_store.proofs.Stepping.{step_at_end, step_done, step_ends, step_fails, step_goal, step_rises}
 use Rattle.log_store.specs.declared.fault.Progress.{Progress}
 use Rattle.log_store.specs.declared.fault.StoreFault.{StoreFault}
-use Rattle.log_store.specs.declared.fault.StoreFault.TheVariants.{PositionEnd}
-use Rattle.log_store.specs.declared.store.Store.{Store}
 use Rattle.log_store.specs.Actions.{IsStep}
 use Rattle.log_store.proofs.laws.steps_go_on.Goals as goal
-use Rattle.std.proofs.Common.{Result, Err, ◌≡◌, subst}
+use Rattle.std.proofs.Common.{Result, subst}
 
 pub returns-clause-position_end : goal.returns-clause-position_end
 returns-clause-position_end g c = λ result old new step. (

@@ -1,8 +1,7 @@
-use Rattle.std.proofs.Common.{◌≡◌, ◌+◌, ◌-◌, ◌<◌, ◌≤◌, ℕ, List, ◌++◌, false, length, take, drop, refl, sym, ap, ◌∙◌, subst, arith}
+use Rattle.std.proofs.Common.{◌≡◌, ◌+◌, ◌<◌, ◌≤◌, ℕ, List, ◌++◌, false, length, take, drop, refl, sym, ap, ◌∙◌, subst, arith}
 use Rattle.std.specs.Prelude.{IsTrue}
 use Rattle.std.specs.List.{All}
 use Rattle.std.proofs.lemmas.List.{length-drop}
-use Rattle.life_limits.specs.declared.TheConstants.{MAX_RECORD_SECTORS}
 use Rattle.life_bytes.specs.declared.sector.Sector.{Sector}
 use Rattle.disk_model.specs.Disk.{Cell, IsImage, flushed}
 use Rattle.disk_model.specs.DiskLaws.{length-written}
@@ -26,8 +25,6 @@ use Rattle.log_store.specs.Steps.{Goes, HasImageRoom, IsInFlight, JobAsks, JobFi
 use Rattle.log_store.proofs.Falls.{falls}
 use Rattle.log_store.proofs.Going.{leaves, replays_wider}
 use Rattle.log_store.proofs.Launch.{groups_batch, length_batch}
-use Rattle.std.proofs.Common.{Bool, true, cond}
-use Rattle.std.specs.Prelude.{nat_lt}
 use Rattle.std.proofs.lemmas.List.{drop_at, length-append}
 use Rattle.std.proofs.lemmas.List.Elements.{All-drop, All-same}
 use Rattle.disk_model.specs.Disk.{as_read}
@@ -35,9 +32,8 @@ use Rattle.log_image.specs.Log.{groups_part}
 use Rattle.log_image.specs.Overlay.{overlaid}
 use Rattle.log_batch.specs.Newest.{IsCommit}
 use Rattle.log_batch.specs.NewestLaws.{Rises-put_all}
-use Rattle.log_store.specs.Outcome.{steps_at, steps_at_rest}
 use Rattle.log_store.specs.declared.store.Job.TheVariants.{Nothing, WriteBack}
-use Rattle.log_store.proofs.Launch.{All-put_all, commit_images-split, length-put_all-le}
+use Rattle.log_store.proofs.Launch.{All-put_all, commit_images-split}
 use Rattle.log_store.proofs.store.Store.flush_record.Goals as goal
 
 -- only a force writes records

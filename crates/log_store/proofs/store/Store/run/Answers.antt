@@ -1,11 +1,8 @@
-use Rattle.std.proofs.Common.{Result, subst, length, ◌≡◌, ◌≤◌, ◌+◌, refl, sym, ap, ◌∙◌, arith, Ok, Err, ℕ, List}
-use Rattle.std.specs.Prelude.{IsTrue, IfErr, OnErr, OnOk}
-use Rattle.life_bytes.specs.declared.sector.Sector.{Sector}
-use Rattle.disk_model.specs.Disk.{Cell, IsImage}
+use Rattle.std.proofs.Common.{Result, subst, ◌≡◌, ◌+◌, refl, sym, ap, ◌∙◌, arith, Ok, Err, ℕ}
+use Rattle.std.specs.Prelude.{IfErr, OnErr}
 use Rattle.disk_model.specs.DiskLaws.{IsAfterWrites-both, IsAfterWrites-none}
 use Rattle.log_store.specs.declared.store.Store.{Store}
 use Rattle.log_store.proofs.Ways.{goes_both, goes_job}
-use Rattle.log_store.specs.declared.store.Stage.{Stage}
 use Rattle.log_store.specs.declared.store.Job.{Job}
 use Rattle.log_store.specs.declared.store.Job.TheVariants.{Clear, Force, Home, Idle, Nothing, WriteBack}
 use Rattle.log_store.specs.declared.fault.Progress.TheVariants.{Ended, More}
