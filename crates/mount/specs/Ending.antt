@@ -33,10 +33,11 @@ pub record IsWholeLeft (g : Geometry) (t : Table) (layouts : Layouts) (list : Li
   pub cover : HasCover (anchor_of g) g.ring position (next + length list) image
   pub represents : (u : Table) (others : Layouts) → CommitsCarry g t layouts list u others → Represents image (closed u) (next + length list)
 
--- Why a store's commits were not all brought home, with its state then and the disk's counts of faults before and after. That it was down before is the cause of `Down`;
+-- Why a store's commits were not all brought home, with its state then and the disk's counts of faults before and after. Where a flush failed, the store is down since; that it was down
+-- before, and stays so, is the cause of `Down`;
 -- the positions end where the record that comes next would end past the last one.
 abbrev pub IsHomeFault : StoreFault → State → State → ℕ → ℕ → Type 0
 IsHomeFault store.WriteFault old new before now = Rose before now
-IsHomeFault store.FlushFault old new before now = Rose before now
+IsHomeFault store.FlushFault old new before now = Rose before now × (new.stage ≡ stage.Down now)
 IsHomeFault store.PositionEnd old new before now = (new.stage ≡ stage.Free) × (EndsPast job.Force new (length new.batch) ⊎ CoverEndsPast new)
-IsHomeFault (store.Down fault) old new before now = old.stage ≡ stage.Down fault
+IsHomeFault (store.Down fault) old new before now = (old.stage ≡ stage.Down fault) × (new.stage ≡ stage.Down fault)
