@@ -32,10 +32,12 @@ use Rattle.sound_image.specs.Places.{bytes_at}
 use Rattle.sound_image.specs.Superblocks.{HasSuperblock}
 use Rattle.whole_image.specs.Represents.{Represents}
 use Rattle.commit_history.specs.Carried.{CommitsCarry, IsEncoding}
-use Rattle.mount.specs.Ending.{IsStoreOf}
+use Rattle.mount.specs.Ending.{IsStoreOf, IsWholeLeft}
 use Rattle.mount.specs.Prefixes.{IsPrefixLeft}
 use Rattle.mounted_calls.specs.Commits.{AreOfChanges}
-use Rattle.mounted_calls.specs.Running.{IsLeftBehind, IsLogOf, IsRecordOf, StoreMoves}
+use Rattle.run_history.specs.CrashSafe as crash
+use Rattle.run_history.specs.Mounts.{changes_made}
+use Rattle.mounted_calls.specs.Running.{IsLeftBehind, IsLogOf, IsRecordOf, StoreMoves, story_of}
 use Rattle.mounted_calls.proofs.Following.{of_carry, of_parted}
 
 -- ---- what a store leaves
@@ -81,6 +83,24 @@ left_behind laws known g start t layouts story head s cells image tells of is re
         represents = subst (λ (n : ℕ). Represents image (After start story.entries (d + left.count)) n) number same;
       },
     )
+
+-- what is left of an end of the mount
+pub left_ended : ((t : Table) → closed (closed t) ≡ closed t) → (known : Bool) (g : Geometry) (start t : Table) (layouts : Layouts) (story : MountRecord) (s : State) (cells : List Cell) (image : List Sector)
+    → IsRecordOf start t story → (log : IsLogOf known g start layouts story s cells) → IsWholeLeft g (After start story.entries log.durable) log.lists s.list (s.durable + 1) image
+    → crash.IsPrefixLeft (story_of start story) image (changes_made story)
+left_ended twice known g start t layouts story s cells image of is left =
+    let d : ℕ = is.durable in
+    let all : ℕ = d + length s.list in
+    let carried : CommitsCarry g (After start story.entries d) is.lists s.list (After start story.entries all) layouts = of_carry g start story.entries d is.lists layouts s.list is.commits in
+    let number : s.durable + 1 + length s.list ≡ story.base + all = omega (arith, is.number) in
+    let told : Represents image (closed (After start story.entries all)) (s.durable + 1 + length s.list) = left.represents (After start story.entries all) layouts carried in
+    let same : Represents image (After start story.entries all) (s.durable + 1 + length s.list) = subst (λ (u : Table). Represents image u (s.durable + 1 + length s.list)) (twice _) told in
+    let numbered : Represents image (After start story.entries all) (story.base + all) = subst (λ (n : ℕ). Represents image (After start story.entries all) n) number same in
+    record {
+      acknowledged = omega (arith, is.acknowledged, of.acknowledged, is.made);
+      made = omega arith;
+      represents = subst (λ (n : ℕ). Represents image (After start story.entries n) (story.base + n)) is.made numbered;
+    }
 
 -- ---- commits that came to be durable
 

@@ -27,7 +27,7 @@ use Rattle.life_table.specs.declared.table.Table.{Table}
 use Rattle.life_table.specs.Legal.{Permits}
 use Rattle.mount.specs.declared.mounted.Mounted.{Mounted}
 use Rattle.run_history.specs.Mounts.{changes_made, covered}
-use Rattle.mounted_calls.specs.Calls.{IsAnswered, IsCoverAnswer, IsCovered, IsForced, IsHomeAnswer, IsJobFault, idle_reply, IsSyncAnswer, entry_of, roomless, with_call}
+use Rattle.mounted_calls.specs.Calls.{IsAnswered, IsCoverAnswer, IsCovered, IsDownBehind, IsForced, IsHomeAnswer, IsJobFault, idle_reply, IsSyncAnswer, entry_of, roomless, with_call}
 use Rattle.mounted_calls.specs.Running.{AreRunning, IsRunning, StoreMoves}
 use Rattle.mounted_calls.proofs.Devices.{AsksDevice, answered_on}
 use Rattle.mounted_calls.proofs.Whole.{still_running, told_call}
@@ -134,6 +134,13 @@ idle_at known cells s kept before now at none = inl none
 pub idle_home : (known : Bool) (cells : List Cell) (s : State) (answer : Reply) (before now : ℕ) → s.dirty ≡ [] → answer ≡ idle_reply (down_count s.stage) → IsHomeAnswer known cells answer s s before now
 idle_home known cells s answer before now none is =
     subst (λ (a : Reply). IsHomeAnswer known cells a s s before now) (sym is) (idle_at known cells s s.stage before now refl none)
+
+rests_at : (s : State) (kept : Stage) → s.stage ≡ kept → IsDownBehind (idle_reply (down_count kept)) s s
+rests_at s (Down count) at = (at, at)
+rests_at s kept at = (ap down_count at, ap down_count at)
+
+pub idle_behind : (s : State) (answer : Reply) → answer ≡ idle_reply (down_count s.stage) → IsDownBehind answer s s
+idle_behind s answer is = subst (λ (a : Reply). IsDownBehind a s s) (sym is) (rests_at s s.stage refl)
 
 pub covered_now : (known : Bool) (old new : State) (cells : List Cell) → new.anchor ≡ old.anchor → new.ring ≡ old.ring → Covered old new
     → (IsTrue known → (image : List Sector) → IsImage cells image → HasCover old.anchor old.ring old.head (old.durable + 1) image) → IsCovered known new cells

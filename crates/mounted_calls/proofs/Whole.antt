@@ -98,9 +98,9 @@ told_call start t story actor made answer reply is same = recorded start t story
 pub made_whole : {D : Type 0} (known : Bool) (cells : D → List Cell) (sector_count : D → ℕ) (start t : Table) (actor : ℕ) (made : Call) (answer : Reply) (old roomy new : Mounted D) (s : State) (layouts : Layouts)
     → IsRunning known cells sector_count start t old → IsRoomier known cells sector_count old roomy → new.geometry ≡ roomy.geometry → new.story ≡ with_call roomy.story actor made answer
     → AreRunning known roomy.geometry start (after_call t made answer) layouts (with_call roomy.story actor made answer) new.groups.items s (cells roomy.store.disk)
-    → state_of new.store ≡ s → new.store.disk ≡ roomy.store.disk → new.store.job ≡ roomy.store.job → IsStore known cells sector_count new.store
+    → state_of new.store ≡ s → s.stage ≡ roomy.store.stage → new.store.disk ≡ roomy.store.disk → new.store.job ≡ roomy.store.job → IsStore known cells sector_count new.store
     → IsMade known cells sector_count start t actor made answer old new
-made_whole known cells sector_count start t actor made answer old roomy new s layouts run is geometry story are state disk job store = record {
+made_whole known cells sector_count start t actor made answer old roomy new s layouts run is geometry story are state stage disk job store = record {
   story = story ∙ ap (λ (x : MountRecord). with_call x actor made answer) is.story;
   running = record {
     layouts = layouts;
@@ -111,4 +111,5 @@ made_whole known cells sector_count start t actor made answer old roomy new s la
   };
   geometry = geometry ∙ is.geometry;
   disk = disk ∙ is.disk;
+  stage = ap (λ (x : State). x.stage) state ∙ stage ∙ ap (λ (x : State). x.stage) is.state;
 }

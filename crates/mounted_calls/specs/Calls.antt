@@ -8,7 +8,7 @@ use Rattle.log_store.specs.declared.store.Job.{Job}
 use Rattle.log_store.specs.declared.store.Job.TheVariants as job
 use Rattle.log_store.specs.declared.store.Stage.TheVariants as stage
 use Rattle.log_store.specs.OnDisk.{HasCover}
-use Rattle.log_store.specs.Outcome.{IsFault}
+use Rattle.log_store.specs.Outcome.{IsFault, down_count}
 use Rattle.log_store.specs.State.{State, state_of}
 use Rattle.life_table.specs.declared.types.Call.{Call}
 use Rattle.life_table.specs.declared.types.Call.TheVariants as call
@@ -58,12 +58,13 @@ roomless_one group = record { state = with_room group.state 0; history = group.h
 abbrev pub roomless : List (GroupValue StateValue) → List (GroupValue StateValue)
 roomless groups = map roomless_one groups
 
--- A call of an actor in a group was answered: its entry is the last one, the table comes to be the one after it, and no device call was made.
+-- A call of an actor in a group was answered: its entry is the last one, the table comes to be the one after it, no device call was made, and the log is as far as it was.
 pub record IsMade {D : Type 0} (known : Bool) (cells : D → List Cell) (sector_count : D → ℕ) (start t : Table) (actor : ℕ) (made : Call) (answer : Reply) (old new : Mounted D) : Type 0 where
   pub story : new.story ≡ with_call old.story actor made answer
   pub running : IsRunning known cells sector_count start (after_call t made answer) new
   pub geometry : new.geometry ≡ old.geometry
   pub disk : new.store.disk ≡ old.store.disk
+  pub stage : new.store.stage ≡ old.store.stage
 
 -- There was no memory for it: all but room is as before.
 pub record IsUnmade {D : Type 0} (known : Bool) (cells : D → List Cell) (sector_count : D → ℕ) (start t : Table) (old new : Mounted D) : Type 0 where
@@ -118,6 +119,21 @@ IsCoverAnswer known cells answer old new before now = IsJobFault job.Home answer
 abbrev pub IsHomeAnswer : Bool → List Cell → Reply → State → State → ℕ → ℕ → Type 0
 IsHomeAnswer known cells reply.Done old new before now = (old.dirty ≡ []) ⊎ IsCovered known new cells
 IsHomeAnswer known cells answer old new before now = IsJobFault job.WriteBack answer old new before now ⊎ IsJobFault job.Home answer old new before now
+
+-- a log that is not down
+abbrev pub IsLogUp : State → Type 0
+IsLogUp s = down_count s.stage ≡ None
+
+-- Whether the log is down before a sync or a home and behind its answer. Where it was down it stays so, and the answer is its count; where a flush failed it is down since; and where the call was done, or
+-- the positions end, it is not. After a failed write it is where that was a write of the log, as the fault itself tells.
+abbrev pub IsDownBehind : Reply → State → State → Type 0
+IsDownBehind reply.Done old new = IsLogUp old × IsLogUp new
+IsDownBehind (reply.Covered count) old new = IsLogUp old × IsLogUp new
+IsDownBehind reply.PositionEnd old new = IsLogUp old × IsLogUp new
+IsDownBehind reply.WriteFault old new = IsLogUp old
+IsDownBehind reply.FlushFault old new = IsLogUp old × ((count : ℕ) × (new.stage ≡ stage.Down count))
+IsDownBehind (reply.Down count) old new = (old.stage ≡ stage.Down count) × (new.stage ≡ stage.Down count)
+IsDownBehind _ old new = ⊥
 
 -- A call that asks the device was answered: its entry is the last one, and the table and its groups stay. What a crash within it left is a prefix of the mount's changes that
 -- has all those that were acknowledged before it.

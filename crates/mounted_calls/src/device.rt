@@ -11,7 +11,7 @@ ghost use Rattle.life_table.specs.declared.types.Call.TheVariants as call;
 ghost use Rattle.life_table.specs.declared.types.Reply.{Reply};
 ghost use Rattle.life_table.specs.declared.types.Reply.TheVariants as reply;
 ghost use Rattle.life_table.specs.declared.table.Table.{Table};
-ghost use Rattle.mounted_calls.specs.Calls.{IsAnswered, IsCoverAnswer, IsForced, IsHomeAnswer, IsSyncAnswer, fault_reply, idle_reply, with_call};
+ghost use Rattle.mounted_calls.specs.Calls.{IsAnswered, IsCoverAnswer, IsDownBehind, IsForced, IsHomeAnswer, IsSyncAnswer, fault_reply, idle_reply, with_call};
 ghost use Rattle.mounted_calls.specs.Running.{IsRunning, StoreMoves};
 
 use crate::laws::{logs_leave_first_changes, logs_move_on};
@@ -43,6 +43,7 @@ fn force_log<D: Disk>(store: &mut Store<D>, base: u64) -> Reply
     ensures goes { StoreMoves D.known D.cells D.sector_count D.moment D.left_since store.old store.new }
     ensures idle { store.new.job ≡ Idle }
     ensures answer { IsForced base result (state_of store.old) (state_of store.new) (D.fault_count store.old.disk) (D.fault_count store.new.disk) }
+    ensures down_behind { IsDownBehind result (state_of store.old) (state_of store.new) }
     ensures down { (count : ℕ) → store.old.stage ≡ Down count → (result ≡ reply.Down count) × (store.new.disk ≡ store.old.disk) }
     ensures count { D.fault_count store.old.disk ≤ D.fault_count store.new.disk }
     ensures sectors { D.sector_count store.new.disk ≡ D.sector_count store.old.disk }
@@ -64,7 +65,8 @@ pub fn sync<D: Disk>(alloc: Global, mounted: &mut Mounted<D>, actor: u32) -> Res
     requires { (start : Table) × (t : Table) × IsRunning D.known D.cells D.sector_count start t mounted.old }
     ensures answered { (start t : Table) → IsRunning D.known D.cells D.sector_count start t mounted.old
         → OnOk result ((answer : Reply) × IsAnswered D.known D.cells D.sector_count D.moment D.left_since start t actor call.Sync answer mounted.old mounted.new
-        × IsSyncAnswer mounted.old.story answer (state_of mounted.old.store) (state_of mounted.new.store) (D.fault_count mounted.old.store.disk) (D.fault_count mounted.new.store.disk)) }
+        × IsSyncAnswer mounted.old.story answer (state_of mounted.old.store) (state_of mounted.new.store) (D.fault_count mounted.old.store.disk) (D.fault_count mounted.new.store.disk)
+        × IsDownBehind answer (state_of mounted.old.store) (state_of mounted.new.store)) }
     ensures unmade { OnErr result (mounted.new ≡ mounted.old) }
     ensures down { (count : ℕ) → mounted.old.store.stage ≡ Down count
         → OnOk result ((mounted.new.story ≡ with_call mounted.old.story actor call.Sync (reply.Down count)) × (mounted.new.store.disk ≡ mounted.old.store.disk)) }
@@ -89,6 +91,7 @@ fn cover_log<D: Disk>(store: &mut Store<D>) -> Reply
     ensures goes { StoreMoves D.known D.cells D.sector_count D.moment D.left_since store.old store.new }
     ensures idle { store.new.job ≡ Idle }
     ensures answer { IsCoverAnswer D.known (D.cells store.new.disk) result (state_of store.old) (state_of store.new) (D.fault_count store.old.disk) (D.fault_count store.new.disk) }
+    ensures down_behind { IsDownBehind result (state_of store.old) (state_of store.new) }
     ensures down { (count : ℕ) → store.old.stage ≡ Down count → (result ≡ reply.Down count) × (store.new.disk ≡ store.old.disk) }
     ensures count { D.fault_count store.old.disk ≤ D.fault_count store.new.disk }
     ensures sectors { D.sector_count store.new.disk ≡ D.sector_count store.old.disk }
@@ -109,6 +112,7 @@ fn bring_home<D: Disk>(store: &mut Store<D>) -> Reply
     ensures goes { StoreMoves D.known D.cells D.sector_count D.moment D.left_since store.old store.new }
     ensures idle { store.new.job ≡ Idle }
     ensures answer { IsHomeAnswer D.known (D.cells store.new.disk) result (state_of store.old) (state_of store.new) (D.fault_count store.old.disk) (D.fault_count store.new.disk) }
+    ensures down_behind { IsDownBehind result (state_of store.old) (state_of store.new) }
     ensures down { (count : ℕ) → store.old.stage ≡ Down count → (result ≡ reply.Down count) × (store.new.disk ≡ store.old.disk) }
     ensures clean { store.old.dirty.images ≡ [] → store.new.disk ≡ store.old.disk }
     ensures count { D.fault_count store.old.disk ≤ D.fault_count store.new.disk }
@@ -141,7 +145,8 @@ pub fn home<D: Disk>(alloc: Global, mounted: &mut Mounted<D>, actor: u32) -> Res
     requires { (start : Table) × (t : Table) × IsRunning D.known D.cells D.sector_count start t mounted.old }
     ensures answered { (start t : Table) → IsRunning D.known D.cells D.sector_count start t mounted.old
         → OnOk result ((answer : Reply) × IsAnswered D.known D.cells D.sector_count D.moment D.left_since start t actor call.Home answer mounted.old mounted.new
-        × IsHomeAnswer D.known (D.cells mounted.new.store.disk) answer (state_of mounted.old.store) (state_of mounted.new.store) (D.fault_count mounted.old.store.disk) (D.fault_count mounted.new.store.disk)) }
+        × IsHomeAnswer D.known (D.cells mounted.new.store.disk) answer (state_of mounted.old.store) (state_of mounted.new.store) (D.fault_count mounted.old.store.disk) (D.fault_count mounted.new.store.disk)
+        × IsDownBehind answer (state_of mounted.old.store) (state_of mounted.new.store)) }
     ensures unmade { OnErr result (mounted.new ≡ mounted.old) }
     ensures down { (count : ℕ) → mounted.old.store.stage ≡ Down count
         → OnOk result ((mounted.new.story ≡ with_call mounted.old.story actor call.Home (reply.Down count)) × (mounted.new.store.disk ≡ mounted.old.store.disk)) }

@@ -9,10 +9,12 @@ ghost use Rattle.log_store.specs.State.{State};
 ghost use Rattle.log_store.specs.Steps.{Moves};
 ghost use Rattle.life_table.specs.declared.types.MountRecord.{MountRecord};
 ghost use Rattle.life_table.specs.declared.table.Table.{Table};
-ghost use Rattle.life_table.specs.History.{closed};
+ghost use Rattle.life_table.specs.History.{After, closed};
 ghost use Rattle.sound_image.specs.Encoding.{Layouts};
-ghost use Rattle.mount.specs.Ending.{IsStoreOf};
-ghost use Rattle.mounted_calls.specs.Running.{AreRunning, IsLeftBehind, IsLogOf, IsRecordOf};
+ghost use Rattle.mount.specs.Ending.{IsStoreOf, IsWholeLeft};
+ghost use Rattle.run_history.specs.CrashSafe.{IsPrefixLeft};
+ghost use Rattle.run_history.specs.Mounts.{changes_made};
+ghost use Rattle.mounted_calls.specs.Running.{AreRunning, IsLeftBehind, IsLogOf, IsRecordOf, story_of};
 ghost use Rattle.std.specs.Prelude.{◌<◌, Some, slice_get};
 ghost use Rattle.geometry.specs.Places.{anchor_of};
 ghost use Rattle.life_table.specs.declared.types.Call.{Call};
@@ -50,8 +52,17 @@ pub fn logs_leave_first_changes()
     changes_pass_over_holds();
 }
 
+/// A law: an image in which all commits of a mount's log are, as an end of the mount leaves it, represents the table after all changes of the mount.
+pub fn ended_logs_leave_all_changes()
+    ensures { (known : Bool) (g : Geometry) (start t : Table) (layouts : Layouts) (story : MountRecord) (s : State) (cells : List Cell) (image : List Sector)
+        → IsRecordOf start t story → (log : IsLogOf known g start layouts story s cells) → IsWholeLeft g (After start story.entries log.durable) log.lists s.list (s.durable + 1) image
+        → IsPrefixLeft (story_of start story) image (changes_made story) }
+{
+    changes_pass_over_holds();
+}
+
 /// A law: where first commits of a store's list came to be durable, its log is still that of the mount.
-pub(crate) fn logs_move_on()
+pub fn logs_move_on()
     ensures { (known : Bool) (g : Geometry) (start t : Table) (layouts : Layouts) (story : MountRecord) (s new : State) (cells after : List Cell)
         → IsRecordOf start t story → IsLogOf known g start layouts story s cells → Moves known s new cells after → IsLogOf known g start layouts story new after }
 {

@@ -12,4 +12,6 @@ mod settling;
 
 pub use calls::call_in_group;
 pub use device::{home, sync};
-pub use laws::{fresh_mounts_run, logs_leave_first_changes};
+pub use laws::{
+    ended_logs_leave_all_changes, fresh_mounts_run, logs_leave_first_changes, logs_move_on,
+};

@@ -159,4 +159,4 @@ returns-clause-made g c = λ start t run.
     made_whole d.known d.cells d.sector_count start t c.args.actor c.args.called (reply_of t c.args.called) m n
     (record { groups = c.settle.new.groups; store = c.settle.new.store; geometry = n.geometry; story = c.record_call.new.story }) _ goes.0 run roomy refl
     (c.in_ok-record_call.ensures.added ∙ with_entry n.story c.call_entry-entry.result (entry_of c.args.actor c.args.called of.reply) c.call_entry-entry.ensures ∙ told_call start t n.story c.args.actor c.args.called of.reply (reply_of t c.args.called) parts.told decides.reply)
-    goes.1 c.settle.ensures.list c.settle.ensures.disk c.settle.ensures.job c.settle.ensures.store
+    goes.1 c.settle.ensures.list refl c.settle.ensures.disk c.settle.ensures.job c.settle.ensures.store

@@ -1,7 +1,7 @@
 use Rattle.disk_model.specs.DiskLaws.{IsAfterWrites-both}
 use Rattle.log_store.specs.State.{state_of}
 use Rattle.mounted_calls.proofs.Left.{store_moves, store_moves_both}
-use Rattle.mounted_calls.proofs.Synced.{home_after, idle_home, none_dirty}
+use Rattle.mounted_calls.proofs.Synced.{home_after, idle_behind, idle_home, none_dirty}
 use Rattle.mounted_calls.proofs.device.bring_home.Goals as goal
 
 pub returns-then-not-dirty-clause-answer : goal.returns-then-not-dirty-clause-answer
@@ -33,3 +33,6 @@ pub returns-in-Err-clause-goes : goal.returns-in-Err-clause-goes
 returns-in-Err-clause-goes g c =
     let d = g.D.Disk in
     store_moves c.logs_move_on.ensures c.logs_leave_first_changes.ensures d.known d.cells d.sector_count d.moment d.left_since c.args.store.now c.write_back.new.self c.write_back.ensures.goes
+
+pub returns-then-not-dirty-clause-down_behind : goal.returns-then-not-dirty-clause-down_behind
+returns-then-not-dirty-clause-down_behind g c = idle_behind (state_of c.args.store.now) c.told_state.result c.told_state.ensures

@@ -24,6 +24,7 @@ returns-clause-answered g c = λ start t run.
           c.bring_home-reply.ensures.idle (permits_home t d.known (d.cells store.disk) answer (state_of m.store) (state_of store) (d.fault_count m.store.disk) (d.fault_count store.disk) home)
           (covers_home parts.log.durable d.known (d.cells store.disk) answer (state_of m.store) (state_of store) (d.fault_count m.store.disk) (d.fault_count store.disk) home),
       home,
+      c.bring_home-reply.ensures.down_behind,
     )
 
 pub returns-clause-down : goal.returns-clause-down

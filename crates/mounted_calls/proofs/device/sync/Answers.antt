@@ -27,6 +27,7 @@ returns-clause-answered g c = λ start t run.
           c.force_log-reply.ensures.idle (permits_forced t m.story.base answer (state_of m.store) (state_of store) (d.fault_count m.store.disk) (d.fault_count store.disk) forced)
           (covers_forced m.story.base parts.log.durable answer (state_of m.store) (state_of store) (d.fault_count m.store.disk) (d.fault_count store.disk) parts.log.number forced),
       synced m.story parts.log.durable answer (state_of m.store) (state_of store) (d.fault_count m.store.disk) (d.fault_count store.disk) parts.log.number parts.log.made forced,
+      c.force_log-reply.ensures.down_behind,
     )
 
 pub returns-clause-down : goal.returns-clause-down
