@@ -69,12 +69,12 @@ pub fn refused_mounts_leave_prefixes()
     sound_images_represent_a_table();
 }
 
-/// A law: a mount that came up is one on which calls go on from the recovered table: over an image of a table from that one, and where nothing tells of the disk from some table.
+/// A law: a mount that came up is one on which calls go on from the recovered table: over an image of a table from that one, and where nothing tells of the disk from the one that its clauses name.
 pub fn mounts_that_came_up_run<D: Disk>()
     ensures known { (g : Geometry) (t : Table) (layouts : Layouts) (next : ℕ) (image : List Sector) (mounted : Mounted D) → IsImageOf g t layouts next image
         → IsMountOf D.cells g t layouts next mounted → IsUp D.known D.cells D.sector_count mounted → IsRunning D.known D.cells D.sector_count t (recovered t) mounted }
-    ensures unknown { (mounted : Mounted D) → ¬ IsTrue D.known → IsUp D.known D.cells D.sector_count mounted
-        → (start : Table) × IsRunning D.known D.cells D.sector_count start (recovered start) mounted }
+    ensures unknown { (mounted : Mounted D) → ¬ IsTrue D.known → (up : IsUp D.known D.cells D.sector_count mounted)
+        → IsRunning D.known D.cells D.sector_count up.start (recovered up.start) mounted }
 {
     recovery_frees_in_order();
     sound_images_represent_a_table();

@@ -33,14 +33,12 @@ returns-clause-known g c = λ h t layouts next image m of is up.
 pub returns-clause-unknown : goal.returns-clause-unknown
 returns-clause-unknown g c = λ m untold up.
     let keys = keys_to_free up.start up.lists in
-    let frees = c.recovery_frees_in_order.ensures in (
-      up.start,
-      record {
-        layouts = unlisted_all up.lists keys;
-        parts = c.fresh_mounts_run.ensures g.D.Disk.known m.geometry up.start (unlisted_all up.lists keys) keys m.story m.groups.items (state_of m.store) (g.D.Disk.cells m.store.disk)
-            (fresh_mount frees.legal frees.all frees.unheld g.D.Disk.known g.D.Disk.cells g.D.Disk.sector_count up.start up.lists up.sectors m up up.can up.unheld up.story up.groups
-            (λ told. absurd (untold told)));
-        store = up.store;
-        idle = up.rests.0;
-      },
-    )
+    let frees = c.recovery_frees_in_order.ensures in
+    record {
+      layouts = unlisted_all up.lists keys;
+      parts = c.fresh_mounts_run.ensures g.D.Disk.known m.geometry up.start (unlisted_all up.lists keys) keys m.story m.groups.items (state_of m.store) (g.D.Disk.cells m.store.disk)
+          (fresh_mount frees.legal frees.all frees.unheld g.D.Disk.known g.D.Disk.cells g.D.Disk.sector_count up.start up.lists up.sectors m up up.can up.unheld up.story up.groups
+          (λ told. absurd (untold told)));
+      store = up.store;
+      idle = up.rests.0;
+    }
