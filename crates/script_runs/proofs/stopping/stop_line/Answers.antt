@@ -1,0 +1,31 @@
+use Rattle.std.proofs.Common.{◌≡◌, [], subst, sym}
+use Rattle.script.specs.declared.types.Command.TheVariants as command
+use Rattle.script_runs.specs.Running.{ComesTo, IsRun, StandsWhereKnown, disk_of_device, records_with}
+use Rattle.script_runs.specs.declared.running.Comes.{Comes}
+use Rattle.script_runs.specs.declared.running.Device.{Device}
+use Rattle.script_runs.proofs.Made.{no_more_records, none_up}
+use Rattle.script_runs.proofs.Stops.{stopped_idle, stopped_mount}
+use Rattle.script_runs.proofs.stopping.stop_line.Goals as goal
+
+pub returns-in-Idle-clause-run : goal.returns-in-Idle-clause-run
+returns-in-Idle-clause-run g c = λ sure sound first number s run few stands.
+    let d = g.D.Disk in
+    let r = c.args.run in
+    let here = subst (λ (x : Device g.row.D.Denot). IsRun d.known d.cells d.sector_count d.arming s (record { names = r.names; past = r.past; device = x })) c.in-Idle.is run in
+    let safe = subst (λ (x : Device g.row.D.Denot). StandsWhereKnown sure first number s (d.cells (disk_of_device x))) c.in-Idle.is stands in
+    subst (λ (x : Comes g.row.D.Denot). ComesTo d.known sure d.cells d.sector_count d.arming first number s command.Stop x) (sym c.answered.ensures)
+    (stopped_idle d.known sure d.cells d.sector_count d.arming first number s r.names r.past c.in-Idle.disk c.restarted.result here
+    (none_up d.known d.cells d.sector_count s.lines s.up c.in-Idle.disk here.device) safe c.restarted.ensures.goes_on c.restarted.ensures.unarmed c.restarted.ensures.cells)
+
+pub returns-in-Mounted-clause-run : goal.returns-in-Mounted-clause-run
+returns-in-Mounted-clause-run g c = λ sure sound first number s run few stands.
+    let d = g.D.Disk in
+    let r = c.args.run in
+    let here = subst (λ (x : Device g.row.D.Denot). IsRun d.known d.cells d.sector_count d.arming s (record { names = r.names; past = r.past; device = x })) c.in-Mounted.is run in
+    let safe = subst (λ (x : Device g.row.D.Denot). StandsWhereKnown sure first number s (d.cells (disk_of_device x))) c.in-Mounted.is stands in
+    stopped_mount d.known sure d.cells d.sector_count d.arming d.fault_count first number s r.names r.past c.in-Mounted.up c.stopped_in.result here safe c.stopped_in.ensures
+
+pub returns-in-Mounted-clause-untouched : goal.returns-in-Mounted-clause-untouched
+returns-in-Mounted-clause-untouched g c = λ known before is.
+    let r = c.args.run in
+    absurd (no_more_records r.past.items c.in-Mounted.up.mounted.story (subst (λ (x : Device g.row.D.Denot). records_with r.past.items x ≡ []) c.in-Mounted.is is.none))

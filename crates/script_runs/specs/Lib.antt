@@ -1,0 +1,5 @@
+pub mod Lines
+pub mod Running
+pub mod Mounting
+pub mod Stopping
+pub mod Calling
