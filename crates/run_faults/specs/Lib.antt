@@ -1,0 +1,4 @@
+pub mod News
+pub mod Log
+pub mod Told
+pub mod Progress
