@@ -1,1 +1,6 @@
 mod Noted
+mod Opens
+mod Made
+mod Happenings
+mod Once
+mod Counted

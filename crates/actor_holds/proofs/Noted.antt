@@ -17,13 +17,13 @@ use Rattle.life_table.specs.declared.types.Entry.{Entry}
 use Rattle.life_table.specs.History.{holds, same_key, takes_hold, gives_up}
 use Rattle.actor_holds.specs.Holds.{AreHolds, AreSteady, IsSteady, hold_order, is_held, is_hold, key_taken}
 
-swapped : (a b : ℕ) → (a == b) ≡ (b == a)
+pub swapped : (a b : ℕ) → (a == b) ≡ (b == a)
 swapped a b = elim (cases_eq a b) [
   | inl same ↦ eq-eqb a b same ∙ sym (eq-eqb b a (sym same))
   | inr apart ↦ ne_eqb a b apart ∙ sym (ne_eqb b a (λ e. apart (sym e)))
 ]
 
-and-assoc : (a b c : Bool) → (a && b) && c ≡ a && (b && c)
+pub and-assoc : (a b c : Bool) → (a && b) && c ≡ a && (b && c)
 and-assoc true b c = refl
 and-assoc false b c = refl
 
@@ -46,30 +46,35 @@ held_by actor key held = ap (λ (test : ℕ × ℕ × ℕ → Bool). list_any te
 
 -- ---- what entries say
 
-one_if : Bool → ℕ
+unfoldable pub one_if : Bool → ℕ
 one_if b = if b then 1 else 0
 
-taken : List Entry → ℕ → Key → ℕ
+unfoldable pub taken : List Entry → ℕ → Key → ℕ
 taken entries actor key = count_by (λ (entry : Entry). (entry.actor == actor) && takes_hold key entry.event) entries
 
-given : List Entry → ℕ → Key → ℕ
+unfoldable pub given : List Entry → ℕ → Key → ℕ
 given entries actor key = count_by (λ (entry : Entry). (entry.actor == actor) && gives_up key entry.event) entries
 
-taken-push : (entries : List Entry) (entry : Entry) (actor : ℕ) (key : Key) → taken (entries ++ entry ∷ []) actor key ≡ taken entries actor key + one_if ((entry.actor == actor) && takes_hold key entry.event)
+pub taken-push : (entries : List Entry) (entry : Entry) (actor : ℕ) (key : Key) → taken (entries ++ entry ∷ []) actor key ≡ taken entries actor key + one_if ((entry.actor == actor) && takes_hold key entry.event)
 unfolding taken one_if
 taken-push entries entry actor key =
     sum_by-append (λ (e : Entry). if (e.actor == actor) && takes_hold key e.event then 1 else 0) entries (entry ∷ []) ∙ ap (λ n. taken entries actor key + n) (omega arith)
+
+pub given-push : (entries : List Entry) (entry : Entry) (actor : ℕ) (key : Key) → given (entries ++ entry ∷ []) actor key ≡ given entries actor key + one_if ((entry.actor == actor) && gives_up key entry.event)
+unfolding given one_if
+given-push entries entry actor key =
+    sum_by-append (λ (e : Entry). if (e.actor == actor) && gives_up key e.event then 1 else 0) entries (entry ∷ []) ∙ ap (λ n. given entries actor key + n) (omega arith)
 
 steady_gives : (key : Key) (event : Event) → IsSteady event → gives_up key event ≡ false
 steady_gives key (Called (call.CloseKey closed) reply.Done) steady = absurd steady
 steady_gives key (Called _ _) steady = refl
 steady_gives key (Freed other) steady = refl
 
-and-false : (b : Bool) → b && false ≡ false
+pub and-false : (b : Bool) → b && false ≡ false
 and-false true = refl
 and-false false = refl
 
-none_given : (entries : List Entry) (actor : ℕ) (key : Key) → AreSteady entries → given entries actor key ≡ 0
+pub none_given : (entries : List Entry) (actor : ℕ) (key : Key) → AreSteady entries → given entries actor key ≡ 0
 unfolding given
 none_given [] actor key steady = refl
 none_given (entry ∷ entries) actor key steady =
@@ -77,11 +82,11 @@ none_given (entry ∷ entries) actor key steady =
     let rest : given entries actor key ≡ 0 = none_given entries actor key steady.1 in
     rw (none, rest)
 
-holds_are : (entries : List Entry) (actor : ℕ) (key : Key) → AreSteady entries → holds entries actor key ≡ taken entries actor key
+pub holds_are : (entries : List Entry) (actor : ℕ) (key : Key) → AreSteady entries → holds entries actor key ≡ taken entries actor key
 unfolding taken given
 holds_are entries actor key steady = let none = none_given entries actor key steady in omega (arith, none)
 
-all_steady : (entries : List Entry) (entry : Entry) → AreSteady entries → IsSteady entry.event → AreSteady (entries ++ entry ∷ [])
+pub all_steady : (entries : List Entry) (entry : Entry) → AreSteady entries → IsSteady entry.event → AreSteady (entries ++ entry ∷ [])
 all_steady [] entry all one = (one, tt)
 all_steady (first ∷ entries) entry all one = (all.0, all_steady entries entry all.1 one)
 
@@ -99,11 +104,11 @@ holds_more entries entry actor key all one =
     ∙ ap (λ n. cond ((entry.actor == actor) && takes_hold key entry.event) true (nat_lt 0 n)) (sym (holds_are entries actor key all))
 
 -- the key that an event takes a hold on is the one that it says
-is_key : Key → Option Key → Bool
+unfoldable pub is_key : Key → Option Key → Bool
 is_key key None = false
 is_key key (Some other) = same_key key other
 
-takes_is : (key : Key) (event : Event) → IsSteady event → takes_hold key event ≡ is_key key (key_taken event)
+pub takes_is : (key : Key) (event : Event) → IsSteady event → takes_hold key event ≡ is_key key (key_taken event)
 unfolding is_key
 takes_is key (Called (call.OpenKey opened) reply.Done) steady = absurd steady
 takes_is key (Called (call.Create g) (reply.Made made)) steady = refl

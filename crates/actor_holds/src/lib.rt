@@ -2,5 +2,7 @@
 #![tactic(auto)]
 
 mod holds;
+mod laws;
 
 pub use holds::ActorHolds;
+pub use laws::holds_are_of_rows;
