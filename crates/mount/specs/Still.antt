@@ -25,6 +25,11 @@ pub record KeepsMount {D : Type 0} (known : Bool) (cells : D → List Cell) (sec
   pub goes : Goes known cells sector_count moment left old.store new.store
   pub idle : new.store.job ≡ Idle
 
+-- An unmount of a mount whose log was down: it is answered with the fault that the log keeps, and the disk was not asked.
+abbrev pub IsStillDown : {D : Type 0} → ℕ → D → Result D (StillMounted D) → Type 0
+IsStillDown fault old (Ok disk) = ⊥
+IsStillDown fault old (Err still) = (still.fault ≡ Down fault) × (still.mounted.store.disk ≡ old)
+
 -- Why a mount did not end, with the store's state before and after and the disk's counts: it is a fault of the store, and never that inodes are held.
 abbrev pub IsEndCause : EndFault → State → State → ℕ → ℕ → Type 0
 IsEndCause (Busy opens) old new before now = ⊥

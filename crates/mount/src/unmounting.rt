@@ -12,7 +12,7 @@ ghost use Rattle.log_store.specs.Steps.{IsStore};
 ghost use Rattle.sound_image.specs.Encoding.{Layouts};
 ghost use Rattle.mount.specs.Ending.{IsStoreOf, IsWholeLeft};
 ghost use Rattle.mount.specs.Prefixes.{IsPrefixLeft};
-ghost use Rattle.mount.specs.Still.{IsEndCause, KeepsMount, disk_after};
+ghost use Rattle.mount.specs.Still.{IsEndCause, IsStillDown, KeepsMount, disk_after};
 
 use crate::fault::EndFault;
 use crate::homing::bring_home;
@@ -40,7 +40,7 @@ pub fn unmount<D: Disk>(mounted: Mounted<D>) -> Result<D, StillMounted<D>>
     ensures still { IfErr result (λ still. KeepsMount D.known D.cells D.sector_count D.moment D.left_since mounted still.mounted) }
     ensures cause { IfErr result (λ still. IsEndCause still.fault (state_of mounted.store) (state_of still.mounted.store)
         (D.fault_count mounted.store.disk) (D.fault_count still.mounted.store.disk)) }
-    ensures down { (fault : ℕ) → mounted.store.stage ≡ Down fault → IfOk result (λ _. ⊥) × (disk_after result ≡ mounted.store.disk) }
+    ensures down { (fault : ℕ) → mounted.store.stage ≡ Down fault → IsStillDown fault mounted.store.disk result }
     ensures count { D.fault_count mounted.store.disk ≤ D.fault_count (disk_after result) }
     ensures arming { IsAfterWrites (D.arming mounted.store.disk) (D.arming (disk_after result)) }
 {

@@ -18,7 +18,7 @@ use Rattle.life_table.specs.declared.types.MountRecord.{MountRecord}
 use Rattle.life_table.specs.declared.types.Reply.{Reply}
 use Rattle.life_table.specs.declared.types.Reply.TheVariants as reply
 use Rattle.life_table.specs.declared.table.Table.{Table}
-use Rattle.life_table.specs.History.{LegalHistory, frees_of, recovered}
+use Rattle.life_table.specs.History.{closed, LegalHistory, frees_of, recovered}
 use Rattle.log_store.specs.State.{State, state_of}
 use Rattle.sound_image.specs.Encoding.{Layouts}
 use Rattle.actor_world.specs.Licence.{Licensed, Unfinished, refused_group}
@@ -184,11 +184,11 @@ FollowsLaw = (first : Table) (number kept : ℕ) (past : List MountStory) (m : M
 
 pub came-up : {D : Type 0} → FollowsLaw → (known : Bool) (cells : D → List Cell) (sector_count : D → ℕ) (first : Table) (number : ℕ) (past : List MountStory) (m : Mounted D) (story : MountRecord)
     (t : Table) (next kept acknowledged : ℕ) (keys : List Key) (old : List Cell)
-    → StandsSafe first number past old → BeginsWhere first number past t next kept → IsStoryOf next keys acknowledged m.story → IsRunning known cells sector_count t (recovered t) m
+    → StandsSafe first number past old → BeginsWhere first number past t next kept → IsStoryOf next keys acknowledged m.story → closed t ≡ t → IsRunning known cells sector_count t (recovered t) m
     → Recovers (mount_of left t kept m.story) → ((image : List Sector) → IsImage (cells m.store.disk) image → IsPrefixLeft (mount_of left t kept m.story) image m.story.freed)
     → story ≡ keeping kept m.story → IsUpBehind known cells sector_count first number past (record m { story = story })
 unfolding LeavesPrefixes
-came-up law known cells sector_count first number past m story t next kept acknowledged keys old safe begins is run recovers leaves same =
+came-up law known cells sector_count first number past m story t next kept acknowledged keys old safe begins is shut run recovers leaves same =
     let told = run.parts.told in
     let freeing : Freeing t (recovered t) keys (keeping kept m.story) = record { entries = is.entries; froms = is.froms; legal = told.legal } in
     let begun : BeginsWhere first number past t m.story.base kept = subst (λ (n : ℕ). BeginsWhere first number past t n kept) (sym is.base) begins in
@@ -198,6 +198,7 @@ came-up law known cells sector_count first number past m story t next kept ackno
     (record {
       start = t;
       starts = begins.start;
+      unheld = shut;
       running = kept-running known cells sector_count t (recovered t) m kept run;
       safe = stands;
     })

@@ -3,6 +3,7 @@ use Rattle.std.specs.Prelude.{◌≡◌, ℕ, Bool, List, Result, Ok, Err}
 use Rattle.disk_model.specs.Disk.{Cell}
 use Rattle.life_table.specs.declared.types.MountRecord.{MountRecord}
 use Rattle.life_table.specs.declared.table.Table.{Table}
+use Rattle.mount.specs.declared.fault.EndFault.TheVariants as end
 use Rattle.mount.specs.declared.mounted.Mounted.{Mounted}
 use Rattle.mount.specs.declared.mounted.StillMounted.{StillMounted}
 use Rattle.run_history.specs.Mounts.{MountStory, changes_made, left, unmounted}
@@ -25,6 +26,11 @@ pub record IsStillUp {D : Type 0} (known : Bool) (cells : D → List Cell) (sect
   pub groups : new.groups ≡ old.groups
   pub geometry : new.geometry ≡ old.geometry
   pub running : (start t : Table) → IsRunning known cells sector_count start t old → IsRunning known cells sector_count start t new
+
+-- The end of a mount whose log was down: it is answered with the fault that the log keeps, and the disk was not asked.
+abbrev pub EndsDown : {D : Type 0} → ℕ → D → Result (EndedMount D) (StillMounted D) → Type 0
+EndsDown fault old (Ok ended) = ⊥
+EndsDown fault old (Err still) = (still.fault ≡ end.Down fault) × (still.mounted.store.disk ≡ old)
 
 -- How a run stands behind the end of a mount: ended, or left where it did not end.
 abbrev pub StandsEnded : {D : Type 0} → (D → List Cell) → Table → ℕ → List MountStory → Table → Result (EndedMount D) (StillMounted D) → Type 0

@@ -4,7 +4,7 @@ use Rattle.std.specs.Option.{option_map}
 use Rattle.disk_model.specs.Disk.{Cell}
 use Rattle.life_table.specs.declared.types.MountRecord.{MountRecord}
 use Rattle.life_table.specs.declared.table.Table.{Table}
-use Rattle.life_table.specs.History.{recovered}
+use Rattle.life_table.specs.History.{closed, recovered}
 use Rattle.mount.specs.declared.mounted.Mounted.{Mounted}
 use Rattle.run_history.specs.Answers.{IsFresh}
 use Rattle.run_history.specs.CrashSafe.{CrashSafe, last_mount}
@@ -46,10 +46,11 @@ with_kept behind story = record story { kept = kept_behind story.base behind }
 abbrev pub IsFreshWith : ℕ → MountRecord → Type 0
 IsFreshWith acknowledged story = IsFresh story × (story.acknowledged ≡ acknowledged)
 
--- A mount came up behind the mounts of a run: it began from what the last of them left, and is at the table without rows that have no links.
+-- A mount came up behind the mounts of a run: it began from what the last of them left, of which nobody held an inode, and is at the table without rows that have no links.
 pub record IsUpBehind {D : Type 0} (known : Bool) (cells : D → List Cell) (sector_count : D → ℕ) (first : Table) (number : ℕ) (past : List MountStory) (m : Mounted D) : Type 0 where
   pub start : Table
   pub starts : start ≡ start_behind first past m.story.kept
+  pub unheld : closed start ≡ start
   pub running : IsRunning known cells sector_count start (recovered start) m
   pub safe : StandsBehind first number past left start m.story (cells m.store.disk)
 

@@ -6,7 +6,7 @@ ghost use Rattle.life_limits.specs.declared.TheConstants.{MAX_NUMBERS, MOUNT_LIM
 ghost use Rattle.life_ports.specs.Faults.{NeverFalls};
 ghost use Rattle.disk_model.specs.Disk.{IsAfterWrites, as_read};
 ghost use Rattle.life_table.specs.declared.table.Table.{Table};
-ghost use Rattle.life_table.specs.History.{recovered};
+ghost use Rattle.life_table.specs.History.{closed, recovered};
 ghost use Rattle.log_store.specs.declared.store.Stage.TheVariants.{Free};
 ghost use Rattle.whole_image.specs.Damage.{IsSound};
 ghost use Rattle.mount.specs.Faults.{IsDeviceCause, IsMountCause};
@@ -73,7 +73,7 @@ pub fn mount_behind<D: Disk>(
     ensures untouched { IsTrue D.known → IfErr result (λ down. IsSound (as_read (D.cells disk)) ⊎ ((down.begun ≡ None) × (D.cells down.disk ≡ D.cells disk))) }
     ensures cause { IsTrue D.known → IfErr result (λ down. IsMountCause (as_read (D.cells disk)) down.fault) }
     // Whether it tells or not.
-    ensures running { IfOk result (λ mounted. (start : Table) × IsRunning D.known D.cells D.sector_count start (recovered start) mounted) }
+    ensures running { IfOk result (λ mounted. (start : Table) × (closed start ≡ start) × IsRunning D.known D.cells D.sector_count start (recovered start) mounted) }
     ensures free { IfOk result (λ mounted. mounted.store.stage ≡ Free) }
     ensures fresh { IfOk result (λ mounted. IsFreshWith mounted.story.freed mounted.story) }
     ensures limits { IfOk result (λ mounted. (mounted.story.base < MOUNT_LIMIT) × (mounted.story.freed ≤ MAX_NUMBERS)) }

@@ -1,6 +1,6 @@
 // The end of a mount of a run.
 
-ghost use Rattle.std.specs.Prelude.{◌≡◌, ◌≤◌, ℕ, List, IfErr, IfOk, IsErr, IsTrue};
+ghost use Rattle.std.specs.Prelude.{◌≡◌, ◌≤◌, ℕ, List, IfErr, IfOk, IsTrue};
 ghost use Rattle.disk_model.specs.Disk.{IsAfterWrites};
 ghost use Rattle.life_table.specs.declared.table.Table.{Table};
 ghost use Rattle.log_store.specs.State.{state_of};
@@ -8,7 +8,7 @@ ghost use Rattle.log_store.specs.declared.store.Stage.TheVariants.{Down};
 ghost use Rattle.mount.specs.Still.{IsEndCause};
 ghost use Rattle.mounted_calls.specs.Running.{IsRunning};
 ghost use Rattle.run_history.specs.Mounts.{MountStory, left};
-ghost use Rattle.run_mounts.specs.Ends.{IsStillUp, StandsEnded, all_acknowledged, disk_of_end};
+ghost use Rattle.run_mounts.specs.Ends.{EndsDown, IsStillUp, StandsEnded, all_acknowledged, disk_of_end};
 ghost use Rattle.run_mounts.specs.Safe.{StandsBehind};
 
 use crate::laws::ended_mounts_stand_safe;
@@ -70,7 +70,7 @@ pub fn end_mount<D: Disk>(
         → StandsBehind first number past left start mounted.story (D.cells mounted.store.disk) → StandsEnded D.cells first number past start result }
     ensures cause { IfErr result (λ still. IsEndCause still.fault (state_of mounted.store) (state_of still.mounted.store)
         (D.fault_count mounted.store.disk) (D.fault_count still.mounted.store.disk)) }
-    ensures down { (fault : ℕ) → mounted.store.stage ≡ Down fault → IsErr result × (disk_of_end result ≡ mounted.store.disk) }
+    ensures down { (fault : ℕ) → mounted.store.stage ≡ Down fault → EndsDown fault mounted.store.disk result }
     ensures count { D.fault_count mounted.store.disk ≤ D.fault_count (disk_of_end result) }
     ensures arming { IsAfterWrites (D.arming mounted.store.disk) (D.arming (disk_of_end result)) }
 {

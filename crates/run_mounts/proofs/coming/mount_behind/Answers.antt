@@ -1,11 +1,11 @@
-use Rattle.std.proofs.Common.{ℕ, Option, None, Some, ap, sym, subst, ◌∙◌, length, take}
+use Rattle.std.proofs.Common.{◌≡◌, ℕ, Option, None, Some, ap, sym, subst, ◌∙◌, length, take}
 use Rattle.std.specs.Option.{IfSome}
 use Rattle.life_limits.specs.declared.TheConstants.{MAX_ACTORS}
 use Rattle.disk_model.specs.Disk.{as_read}
 use Rattle.disk_model.specs.DiskLaws.{IsImage-as_read}
 use Rattle.life_table.specs.declared.table.Table.{Table}
 use Rattle.life_table.specs.declared.types.MountRecord.{MountRecord}
-use Rattle.life_table.specs.History.{recovered}
+use Rattle.life_table.specs.History.{closed, recovered}
 use Rattle.orphan_frees.specs.Order.{freed_all, keys_to_free}
 use Rattle.whole_image.specs.Damage.{groups_of}
 use Rattle.mount.specs.Mounts.{IsLeftDown}
@@ -32,7 +32,7 @@ returns-in-Ok-clause-up g c = λ known first number past safe same.
     let run = c.mounts_that_came_up_run.ensures.known geometry t layouts next image m is mounted c.in-Ok.ensures.up in
     let keeps = kept-is first number next kept m.story.base past t c.args.behind begins.1 same mounted.story.base in
     came-up c.mounts_begin_where_runs_stand.ensures.follows d.known d.cells d.sector_count first number past m c.keeping.result t next kept (length (keys_to_free t layouts)) (keys_to_free t layouts) cells
-    safe begins.1 mounted.story run
+    safe begins.1 mounted.story (c.sound_images_represent_a_table.ensures.no_opens image t next is.represents) run
     (c.mounts_leave_prefixes.ensures.recovers geometry t layouts next kept (length (keys_to_free t layouts)) image m.story is mounted.story)
     (λ after at. c.mounts_leave_prefixes.ensures.safe geometry t layouts next kept image after m is mounted at)
     (c.keeping.ensures ∙ ap (λ (k : ℕ). keeping k m.story) keeps)
@@ -44,15 +44,16 @@ returns-in-Ok-clause-running g c =
     let image = as_read (d.cells c.args.disk) in
     let kept = kept_behind m.story.base c.args.behind in
     let up = c.in-Ok.ensures.up in
-    let running : (start : Table) × IsRunning d.known d.cells d.sector_count start (recovered start) m =
+    let running : (start : Table) × (closed start ≡ start) × IsRunning d.known d.cells d.sector_count start (recovered start) m =
     told-or-not d.known
     (λ known.
     let of = c.sound_images_are_of_tables.ensures image (c.in-Ok.ensures.sound known).0 in
-    (of.1, c.mounts_that_came_up_run.ensures.known of.0 of.1 of.2 of.3 image m of.4 (c.in-Ok.ensures.mounted known of.0 of.1 of.2 of.3 of.4) up))
-    (λ untold. (up.start, c.mounts_that_came_up_run.ensures.unknown m untold up)) in (
+    (of.1, c.sound_images_represent_a_table.ensures.no_opens image of.1 of.3 of.4.represents, c.mounts_that_came_up_run.ensures.known of.0 of.1 of.2 of.3 image m of.4 (c.in-Ok.ensures.mounted known of.0 of.1 of.2 of.3 of.4) up))
+    (λ untold. (up.start, up.unheld, c.mounts_that_came_up_run.ensures.unknown m untold up)) in (
       running.0,
+      running.1,
       subst (λ (s : MountRecord). IsRunning d.known d.cells d.sector_count running.0 (recovered running.0) (record m { story = s })) (sym c.keeping.ensures)
-          (kept-running d.known d.cells d.sector_count running.0 (recovered running.0) m kept running.1),
+          (kept-running d.known d.cells d.sector_count running.0 (recovered running.0) m kept running.2),
     )
 
 pub returns-in-Ok-clause-fresh : goal.returns-in-Ok-clause-fresh
