@@ -1,6 +1,6 @@
 -- The call that words begin, against the run as its definitions have it.
-use Rattle.std.proofs.Common.{◌≡◌, ◌<◌, ℕ, Bool, true, false, List, [], ◌∷◌, Option, None, Some, if◌then◌else◌, length, refl, ap, sym, subst, ◌∙◌}
-use Rattle.std.specs.Prelude.{Result, Ok, Err, nat_le, nat_lt}
+use Rattle.std.proofs.Common.{◌≡◌, ℕ, Bool, true, false, List, Option, None, Some, if◌then◌else◌, length, refl, ap, sym, subst, ◌∙◌}
+use Rattle.std.specs.Prelude.{Result, Ok, Err}
 use Rattle.std.specs.Option.{option_map}
 use Rattle.std.proofs.lemmas.Bool.{leb-false, ltb-true}
 use Rattle.life_table.specs.declared.key.Key.{Key}
@@ -15,6 +15,7 @@ use Rattle.script.specs.declared.answers.LineReply.{LineReply}
 use Rattle.script.specs.declared.answers.LineReply.TheVariants as line
 use Rattle.run_history.specs.States.{Binding, LineCall, RunState, UpMount, beginning, begun, begun_if_held, call_meant, holds_key, key_bound, lacks_group}
 use Rattle.mounted_calls.specs.Calls.{NamesGroup}
+use Rattle.run_faults.specs.News.{news_of_line, other_news}
 use Rattle.run_mounts.specs.Calls.{IsWholeCall}
 use Rattle.script_runs.specs.Calling.{call_begun, call_held, lacks_in}
 use Rattle.script_runs.specs.Lines.{AreSteadyWords}
@@ -141,3 +142,14 @@ refused_if false entries actor o refusal rule sector e damaged = let is = refuse
 pub no_damage : (groups : ℕ) (names : List Binding) (entries : List Entry) (actor : ℕ) (words : Spoken) (refusal : LineReply) (rule sector : ℕ)
     → call_begun groups names entries actor words ≡ Err refusal → ¬ (refusal ≡ line.Damaged rule sector)
 no_damage groups names entries actor words refusal rule sector e = refused_if (lacks_in groups words) entries actor (call_meant names words) refusal rule sector e
+
+-- and of no log
+
+nothing_if : (b : Bool) (entries : List Entry) (actor : ℕ) (o : Option Call) (refusal : LineReply) → (if b then Err line.NoGroup else call_held entries actor o) ≡ Err refusal
+    → news_of_line refusal ≡ other_news
+nothing_if true entries actor o refusal e = let is : line.NoGroup ≡ refusal = cc in ap news_of_line (sym is)
+nothing_if false entries actor o refusal e = ap news_of_line (refused_held entries actor o refusal e)
+
+pub nothing_refused : (groups : ℕ) (names : List Binding) (entries : List Entry) (actor : ℕ) (words : Spoken) (refusal : LineReply)
+    → call_begun groups names entries actor words ≡ Err refusal → news_of_line refusal ≡ other_news
+nothing_refused groups names entries actor words refusal e = nothing_if (lacks_in groups words) entries actor (call_meant names words) refusal e

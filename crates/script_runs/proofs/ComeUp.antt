@@ -1,23 +1,22 @@
 -- What a mount line comes to whose mount came up.
-use Rattle.std.proofs.Common.{Vec, Global, ◌≡◌, ◌⊎◌, ◌∙◌, ◌<◌, ◌≤◌, ◌+◌, ℕ, Bool, true, false, List, [], ◌∷◌, ◌++◌, length, max, refl, sym, ap, subst, inl, inr, arith}
-use Rattle.std.specs.Prelude.{IsTrue, MatchOption, Option, None, Some, map, vec_len, vec_capacity}
+use Rattle.std.proofs.Common.{Vec, Global, ◌≡◌, ◌∙◌, ◌<◌, ◌≤◌, ◌+◌, ℕ, Bool, true, false, List, [], ◌∷◌, ◌++◌, length, refl, sym, ap, subst, inr, arith}
+use Rattle.std.specs.Prelude.{IsTrue, MatchOption, Option, None, vec_len, vec_capacity, is_some}
 use Rattle.std.proofs.lemmas.Bool.{false≢true}
 use Rattle.std.proofs.lemmas.List.{length-map, map-append}
 use Rattle.life_limits.specs.declared.TheConstants.{MAX_ACTORS, MAX_NUMBERS}
-use Rattle.life_bytes.specs.declared.sector.Sector.{Sector}
-use Rattle.disk_model.specs.Disk.{Arming, Cell}
+use Rattle.disk_model.specs.Disk.{Arming, Cell, Stopping}
 use Rattle.life_table.specs.declared.key.Key.{Key}
 use Rattle.life_table.specs.declared.types.Event.TheVariants.{Freed}
 use Rattle.life_table.specs.declared.types.Entry.{Entry}
 use Rattle.life_table.specs.declared.types.MountRecord.{MountRecord}
 use Rattle.life_table.specs.declared.table.Table.{Table}
-use Rattle.life_table.specs.History.{after_entries, frees_of, recovered}
+use Rattle.life_table.specs.History.{closed, frees_of, recovered}
 use Rattle.mount.specs.declared.mounted.Mounted.{Mounted}
 use Rattle.script.specs.declared.types.Command.TheVariants as command
 use Rattle.script.specs.declared.answers.LineReply.TheVariants as line
 use Rattle.script.specs.declared.answers.Said.{Said}
 use Rattle.run_history.specs.Answers.{AnswersLine, AnswersMount, IsFresh, OnlySays, line_said}
-use Rattle.run_history.specs.Mounts.{MountStory, acknowledged_by, left, never_up, start_behind}
+use Rattle.run_history.specs.Mounts.{MountStory, left, never_up, start_behind}
 use Rattle.run_history.specs.States.{RunState, UpMount, disarmed, down_now, ends_as, up_now}
 use Rattle.mounted_calls.specs.Running.{IsRunning}
 use Rattle.actor_holds.specs.Holds.{AreHolds, AreSteady}
@@ -25,8 +24,6 @@ use Rattle.script_runs.specs.Mounting.{CameUp, IsIdle}
 use Rattle.script_runs.specs.Running.{IsAnswer, records_of}
 use Rattle.run_mounts.specs.Safe.{IsUpBehind, StandsBehind, StandsSafe}
 use Rattle.script_runs.specs.declared.running.Device.TheVariants as device
-use Rattle.script_runs.specs.declared.running.Run.{Run}
-use Rattle.script_runs.specs.declared.running.Up.{Up}
 use Rattle.script_runs.proofs.Freed.{frees_are_held, frees_are_steady, leads_after}
 
 -- ---- where no mount is up
@@ -46,16 +43,17 @@ records_more past m items are =
 -- the table from which it began: where it is sure that the run stood safe, that behind the mounts before
 record Begins {D : Type 0} (known sure : Bool) (cells : D → List Cell) (sector_count : D → ℕ) (first : Table) (number : ℕ) (past : List MountStory) (m : Mounted D) : Type 0 where
   start : Table
+  unheld : closed start ≡ start
   running : IsRunning known cells sector_count start (recovered start) m
   starts : IsTrue sure → start ≡ start_behind first past m.story.kept
   safe : IsTrue sure → StandsBehind first number past left start m.story (cells m.store.disk)
 
 begins : {D : Type 0} (known sure : Bool) (cells : D → List Cell) (sector_count : D → ℕ) (first : Table) (number : ℕ) (past : List MountStory) (m : Mounted D)
-    → (IsTrue sure → IsUpBehind known cells sector_count first number past m) → ((start : Table) × IsRunning known cells sector_count start (recovered start) m)
+    → (IsTrue sure → IsUpBehind known cells sector_count first number past m) → ((start : Table) × (closed start ≡ start) × IsRunning known cells sector_count start (recovered start) m)
     → Begins known sure cells sector_count first number past m
 begins known true cells sector_count first number past m up running =
-    let is = up refl in record { start = is.start; running = is.running; starts = λ told. is.starts; safe = λ told. is.safe }
-begins known false cells sector_count first number past m up running = record { start = running.0; running = running.1; starts = λ told. absurd (false≢true told); safe = λ told. absurd (false≢true told) }
+    let is = up refl in record { start = is.start; unheld = is.unheld; running = is.running; starts = λ told. is.starts; safe = λ told. is.safe }
+begins known false cells sector_count first number past m up running = record { start = running.0; unheld = running.1; running = running.2; starts = λ told. absurd (false≢true told); safe = λ told. absurd (false≢true told) }
 
 few_entries : (lines freed : ℕ) (entries : List Entry) (keys : List Key) → entries ≡ frees_of MAX_ACTORS keys → freed ≡ length keys → freed ≤ MAX_NUMBERS → length entries ≤ MAX_NUMBERS + lines
 few_entries lines freed entries keys are count few =
@@ -84,6 +82,7 @@ comes_up known sure cells sector_count arming first number s m names past holds 
         device = record {
           story = refl;
           going = refl;
+          unheld = z.unheld;
           running = subst (λ (t : Table). IsRunning known cells sector_count z.start t m) (sym (leads_after z.start (recovered z.start) m.story.entries told.legal.leads)) z.running;
           holds = subst (λ (entries : List Entry). AreHolds entries holds) (sym fresh.entries) (frees_are_held MAX_ACTORS fresh.keys holds none);
           steady = subst AreSteady (sym fresh.entries) (frees_are_steady MAX_ACTORS fresh.keys);
@@ -91,7 +90,7 @@ comes_up known sure cells sector_count arming first number s m names past holds 
           few = few_entries (s.lines + 1) m.story.freed m.story.entries fresh.keys fresh.entries fresh.freed came.few;
         };
         room = room;
-        armed = record { goes_on = sym asked ∙ goes_on; by_line = came.behind_writes.by_line };
+        armed = record { goes_on = sym asked ∙ goes_on; told = came.behind_writes.told };
       };
       lines = refl;
       answers = λ known_is. answers_idle first s (line_said (line.Mounted m.story.kept m.story.freed)) next idle.down (
@@ -128,7 +127,7 @@ cut_off law known sure cells sector_count arming first number s m names old past
         past = items ∙ ap (λ (r : MountRecord). old ++ r ∷ []) unacknowledged ∙ records_more s.past (ends_as never_up up) old idle.records;
         device = tt;
         room = tt;
-        armed = record { goes_on = goes_on; by_line = inl unarmed };
+        armed = record { goes_on = goes_on; told = ap (λ (o : Option Stopping). is_some o) unarmed };
       };
       lines = refl;
       answers = λ told. answers_idle first s (line_said line.Stopped) next idle.down (came.behind_writes.stopped (sym asked ∙ stopped), inr (m.story, came.fresh.0, refl));

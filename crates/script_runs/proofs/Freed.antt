@@ -1,5 +1,5 @@
 -- What a history that only frees rows comes to: the table behind it, and nobody who holds an inode.
-use Rattle.std.proofs.Common.{◌≡◌, ◌∙◌, ◌==◌, ◌&&◌, ◌+◌, ℕ, Bool, true, false, List, [], ◌∷◌, refl, sym, ap, subst, arith}
+use Rattle.std.proofs.Common.{◌≡◌, ◌∙◌, ◌==◌, ◌&&◌, ℕ, Bool, true, false, List, [], ◌∷◌, refl, sym, ap, arith}
 use Rattle.std.specs.Prelude.{nat_lt}
 use Rattle.std.specs.List.{count_by}
 use Rattle.life_table.specs.declared.key.Key.{Key}
@@ -7,7 +7,7 @@ use Rattle.life_table.specs.declared.types.Event.{Event}
 use Rattle.life_table.specs.declared.types.Event.TheVariants.{Called, Freed}
 use Rattle.life_table.specs.declared.types.Entry.{Entry}
 use Rattle.life_table.specs.declared.table.Table.{Table}
-use Rattle.life_table.specs.History.{Happens, Leads, after_entries, after_event, frees_of, gives_up, holds, takes_hold}
+use Rattle.life_table.specs.History.{Happens, Leads, after_entries, after_event, frees_of, holds, takes_hold}
 use Rattle.actor_holds.specs.Holds.{AreHolds, AreSteady}
 
 -- ---- the table

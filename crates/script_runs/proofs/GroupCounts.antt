@@ -1,5 +1,5 @@
 -- How many groups a table has, which nothing that happens changes; and the table after one entry more.
-use Rattle.std.proofs.Common.{◌≡◌, ◌+◌, ◌/◌, ◌%◌, ℕ, List, [], ◌∷◌, ◌++◌, Option, None, Some, length, take, refl, ap, sym, ◌∙◌, length-set}
+use Rattle.std.proofs.Common.{◌≡◌, ◌+◌, ◌/◌, ◌%◌, ℕ, List, [], ◌∷◌, ◌++◌, Option, None, Some, length, take, refl, ◌∙◌, length-set}
 use Rattle.std.proofs.lemmas.List.{length-map}
 use Rattle.life_limits.specs.declared.TheConstants.{GROUP_NUMBERS}
 use Rattle.life_table.specs.declared.key.Key.{Key}
@@ -15,8 +15,8 @@ use Rattle.life_table.specs.declared.table.Inode.{Inode}
 use Rattle.life_table.specs.declared.table.Table.{Table}
 use Rattle.life_table.specs.Table.{group_at, in_use, map_group, row_of, set_inode, with_inode, with_row}
 use Rattle.life_table.specs.Space.{prepared}
-use Rattle.life_table.specs.Legal.{after_call, freed, made_row, prepare, row_after, with_changed}
-use Rattle.life_table.specs.History.{After, after_entries, after_event, changes, closed, closed_inode}
+use Rattle.life_table.specs.Legal.{after_call, made_row, prepare, row_after, with_changed}
+use Rattle.life_table.specs.History.{After, after_entries, after_event, changes, closed_inode}
 
 inode_count : (t : Table) (number : ℕ) (inode : Inode) → length (with_inode t number inode).groups ≡ length t.groups
 unfolding with_inode

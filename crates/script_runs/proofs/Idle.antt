@@ -8,7 +8,6 @@ use Rattle.life_table.specs.declared.types.MountRecord.{MountRecord}
 use Rattle.life_table.specs.declared.table.Table.{Table}
 use Rattle.script.specs.declared.types.Command.TheVariants as command
 use Rattle.script.specs.declared.answers.LineReply.TheVariants as line
-use Rattle.script.specs.declared.answers.Said.{Said}
 use Rattle.run_history.specs.Answers.{AnswersMount, OnlySays, line_said}
 use Rattle.run_history.specs.CrashSafe.{last_of}
 use Rattle.run_history.specs.Mounts.{MountStory}
@@ -35,6 +34,7 @@ one_line_more known cells sector_count lines None up is = absurd is
 one_line_more known cells sector_count lines (Some m) up is = record {
   story = is.story;
   going = is.going;
+  unheld = is.unheld;
   running = is.running;
   holds = is.holds;
   steady = is.steady;

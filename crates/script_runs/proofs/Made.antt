@@ -1,10 +1,10 @@
 -- What a line owes whose call was made, or was not.
-use Rattle.std.proofs.Common.{◌≡◌, ◌≤◌, ◌<◌, ◌+◌, ◌⊎◌, inl, inr, ℕ, zero, suc, Bool, true, false, List, [], ◌∷◌, ◌++◌, Option, None, Some, length, map, refl, ap, sym, subst, ◌∙◌, arith}
-use Rattle.std.specs.Prelude.{IsTrue, MatchOption, MatchResult, Ok, Err, Result, slice_get, vec_capacity, vec_len}
+use Rattle.std.proofs.Common.{◌≡◌, ◌≤◌, ◌<◌, ◌+◌, inl, inr, ℕ, Bool, true, false, List, [], ◌∷◌, ◌++◌, Option, None, Some, length, refl, ap, sym, subst, ◌∙◌, arith}
+use Rattle.std.specs.Prelude.{IsTrue, MatchOption, MatchResult, Ok, Err, Result, slice_get, vec_capacity, vec_len, Option, is_some}
 use Rattle.std.proofs.lemmas.List.{length-append, length-map, map-append}
 use Rattle.std.proofs.lemmas.List.Sums.{count_by-le-length, length-filter}
 use Rattle.life_limits.specs.declared.TheConstants.{MAX_NUMBERS, MAX_SCRIPT_BYTES, MOUNT_LIMIT}
-use Rattle.disk_model.specs.Disk.{Arming, Cell, IsAfterWrites, Stopping, after_write, after_write_by, after_writes}
+use Rattle.disk_model.specs.Disk.{Arming, Cell, IsAfterWrites, Stopping}
 use Rattle.life_table.specs.declared.types.Call.{Call}
 use Rattle.life_table.specs.declared.types.Call.TheVariants as call
 use Rattle.life_table.specs.declared.types.Reply.{Reply}
@@ -12,14 +12,13 @@ use Rattle.life_table.specs.declared.types.Event.TheVariants.{Called}
 use Rattle.life_table.specs.declared.types.Entry.{Entry}
 use Rattle.life_table.specs.declared.types.MountRecord.{MountRecord}
 use Rattle.life_table.specs.declared.table.Table.{Table}
-use Rattle.life_table.specs.Legal.{after_call}
 use Rattle.life_table.specs.History.{changes, is_change}
 use Rattle.script.specs.declared.types.Command.TheVariants as command
 use Rattle.script.specs.declared.types.Spoken.{Spoken}
 use Rattle.script.specs.declared.answers.LineReply.{LineReply}
 use Rattle.script.specs.declared.answers.LineReply.TheVariants as line
 use Rattle.script.specs.declared.answers.Said.{Said}
-use Rattle.script.specs.declared.answers.Said.TheVariants.{Of, Line}
+use Rattle.script.specs.declared.answers.Said.TheVariants.{Of}
 use Rattle.run_history.specs.Answers.{AnswersLine, BreaksOff, OnlySays, RunsCall, StopsIn, Works, line_said}
 use Rattle.run_history.specs.Mounts.{MountStory, acknowledged_by, changes_made, left}
 use Rattle.run_history.specs.States.{LineCall, PastCall, RunState, UpMount, beginning, begun, disarmed, down_now, ends_as, going_of, mounts_of, names_after, next_line, of_others, table_now, up_now, went_on, went_to_end, with_up}
@@ -32,41 +31,18 @@ use Rattle.actor_holds.specs.Holds.{AreHolds, IsSteady}
 use Rattle.actor_holds.specs.declared.holds.ActorHolds.{ActorHolds}
 use Rattle.run_mounts.specs.Calls.{IsCalled, IsUncalled, IsWholeCall}
 use Rattle.run_mounts.specs.Safe.{StandsBehind, StandsSafe, story_as}
-use Rattle.script_runs.specs.Running.{ComesTo, HasRoom, IsAnswer, IsArmedAs, IsBroken, IsDeviceAs, IsRun, IsUpAs, SaysNoDamage, StandsWhereKnown, TellsOf, disk_of_device, disk_of_run, records_of, records_with, run_of}
+use Rattle.script_runs.specs.Running.{ComesTo, HasRoom, IsAnswer, IsArmedAs, IsBroken, IsDeviceAs, IsRun, IsUpAs, SaysNoDamage, StandsWhereKnown, disk_of_device, disk_of_run, records_of, records_with, run_of}
 use Rattle.script_runs.specs.Stopping.{ComesToStop, IsLeftIn}
-use Rattle.script_runs.specs.Calling.{IsArmedBy, IsMadeIn}
+use Rattle.script_runs.specs.Calling.{IsMadeIn}
 use Rattle.script_runs.specs.declared.running.Comes.{Comes}
 use Rattle.script_runs.specs.declared.running.Comes.TheVariants.{Answered, Unanswered}
 use Rattle.script_runs.specs.declared.running.Device.{Device}
 use Rattle.script_runs.specs.declared.running.Device.TheVariants as device
 use Rattle.script_runs.specs.declared.running.Run.{Run}
 use Rattle.script_runs.specs.declared.running.Up.{Up}
+use Rattle.script_runs.proofs.Armed.{armed_behind}
 use Rattle.script_runs.proofs.GroupCounts.{after_one, first_count}
 use Rattle.script_runs.proofs.Noted.{slice_last}
-
--- ---- what is armed
-
-quiet : (b : Bool) (a : Arming) → after_write_by b None a ≡ a
-quiet true a = refl
-quiet false a = refl
-
-unarmed_once : (a : Arming) → a.armed ≡ None → after_write a ≡ a
-unarmed_once a none = ap (λ (o : Option Stopping). after_write_by a.stopped o a) none ∙ quiet a.stopped a
-
-unarmed_stays : (writes : ℕ) (a : Arming) → a.armed ≡ None → after_writes writes a ≡ a
-unarmed_stays zero a none = refl
-unarmed_stays (suc writes) a none = ap (after_writes writes) (unarmed_once a none) ∙ unarmed_stays writes a none
-
--- where nothing was armed, writes leave it so
-pub armed_by : (armed : Bool) (old new : Arming) → IsArmedAs armed old → IsAfterWrites old new → IsArmedBy armed new
-armed_by armed old new stand after =
-    elim stand.by_line [
-      | inl none ↦
-          let same : new ≡ old = after.1 ∙ unarmed_stays after.0 old none in
-          let goes_on : new.stopped ≡ false = ap (λ (a : Arming). a.stopped) same ∙ stand.goes_on in
-          record { by_line = inl (ap (λ (a : Arming). a.armed) same ∙ none); stopped = λ is. absurd cc }
-      | inr line ↦ record { by_line = inr line; stopped = λ is. line }
-    ]
 
 -- ---- records
 
@@ -105,6 +81,7 @@ later known cells sector_count lines (Some m) (device.Idle disk) stand = absurd 
 later known cells sector_count lines (Some m) (device.Mounted up) stand = record {
   story = stand.story;
   going = stand.going;
+  unheld = stand.unheld;
   running = stand.running;
   holds = stand.holds;
   steady = stand.steady;
@@ -208,7 +185,7 @@ stopped_line {D = D} known sure cells sector_count arming fault_count first numb
         past = is.records ∙ broken_records s m actor words made.made made.answer past up.mounted.story made.records made.story;
         device = subst (λ (d : Device D). IsDeviceAs known cells sector_count (s.lines + 1) None d) (sym is.idle) tt;
         room = subst (λ (d : Device D). HasRoom run d) (sym is.idle) tt;
-        armed = record { goes_on = is.goes_on; by_line = inl is.unarmed };
+        armed = record { goes_on = is.goes_on; told = ap (λ (o : Option Stopping). is_some o) is.unarmed };
       };
       lines = refl;
       answers = λ here.
@@ -261,6 +238,7 @@ made_line {D = D} known sure cells sector_count arming first number s actor word
     let up_is : IsUpAs known cells sector_count (s.lines + 1) after now = record {
       story = sym told;
       going = ap (of_others actor) made.going;
+      unheld = made.unheld;
       running = subst (λ (t : Table). IsRunning known cells sector_count m.start t up.mounted) (sym (after_one m.start m.story.entries entry)) made.running;
       holds = held;
       steady = held.steady;
@@ -275,7 +253,7 @@ made_line {D = D} known sure cells sector_count arming first number s actor word
         past = past_is ∙ made.records;
         device = subst (λ (d : Device D). IsDeviceAs known cells sector_count (s.lines + 1) (Some after) d) (sym is) up_is;
         room = subst (λ (d : Device D). HasRoom run d) (sym is) room;
-        armed = subst (λ (d : D). IsArmedAs s.armed (arming d)) (sym where_it_is) (record { goes_on = goes_on; by_line = made.armed.by_line });
+        armed = subst (λ (d : D). IsArmedAs s.armed (arming d)) (sym where_it_is) (record { goes_on = goes_on; told = made.armed.told });
       };
       lines = refl;
       answers = λ here.
@@ -355,6 +333,7 @@ is_made known sure cells sector_count fault_count arming first number s m actor 
   bound = bound;
   records = records;
   holds = stand.holds;
+  unheld = stand.unheld;
   base = stand.number;
   few = stand.few;
   made = made;
@@ -363,7 +342,7 @@ is_made known sure cells sector_count fault_count arming first number s m actor 
   answer = called.answer;
   story = called.story ∙ ap (λ (x : MountRecord). with_call x actor made called.answer) (sym stand.story);
   running = called.running;
-  armed = armed_by s.armed (arming up.mounted.store.disk) (arming new.store.disk) armed after;
+  armed = armed_behind s.armed (arming up.mounted.store.disk) (arming new.store.disk) armed after;
   safe = safe;
 }
 

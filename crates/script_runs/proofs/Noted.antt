@@ -1,5 +1,5 @@
 -- The last entry of a record, and what holds after either of two steps.
-use Rattle.std.proofs.Common.{◌≡◌, ◌+◌, ◌-◌, ℕ, List, [], ◌∷◌, ◌++◌, Some, length, refl, ap, sym, subst, ◌∙◌, arith}
+use Rattle.std.proofs.Common.{◌≡◌, ◌-◌, List, [], ◌∷◌, ◌++◌, Some, length, refl, ap, ◌∙◌, arith}
 use Rattle.std.specs.Prelude.{Err, Ok, OnOk, Result, slice_get}
 use Rattle.std.proofs.lemmas.List.{length-append}
 use Rattle.life_ports.specs.declared.errors.NoMemory.{NoMemory}

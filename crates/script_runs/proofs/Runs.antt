@@ -1,25 +1,24 @@
 -- A run that has come so far, and one that is over.
-use Rattle.std.proofs.Common.{Vec, Global, ◌≡◌, ◌⊎◌, ◌∙◌, ◌<◌, ◌≤◌, ◌+◌, ℕ, zero, suc, Bool, true, false, List, [], ◌∷◌, ◌++◌, length, take, refl, sym, ap, subst, inl, inr, arith, length-append}
-use Rattle.std.specs.Prelude.{IsTrue, Option, None, Some, map, slice_get, vec_capacity, vec_len}
+use Rattle.std.proofs.Common.{◌≡◌, ◌⊎◌, ◌∙◌, ◌<◌, ◌≤◌, ◌+◌, ℕ, zero, suc, Bool, false, List, [], ◌∷◌, ◌++◌, length, refl, sym, ap, subst, inl, inr, arith, length-append}
+use Rattle.std.specs.Prelude.{IsTrue, Option, None, Some, slice_get, is_some}
 use Rattle.std.proofs.lemmas.Bool.{false≢true}
 use Rattle.std.proofs.lemmas.Option.{slice_get-get_or, slice_get_within}
 use Rattle.std.specs.Prelude.{get_or}
 use Rattle.life_limits.specs.declared.TheConstants.{MAX_SCRIPT_BYTES}
 use Rattle.life_bytes.specs.declared.sector.Sector.{Sector}
-use Rattle.disk_model.specs.Disk.{Arming, Cell, IsImage, settled_as}
+use Rattle.disk_model.specs.Disk.{Arming, Cell, IsImage, settled_as, Stopping}
 use Rattle.disk_model.specs.DiskLaws.{IsImage-settled_as}
 use Rattle.life_table.specs.declared.types.MountRecord.{MountRecord}
 use Rattle.life_table.specs.declared.table.Table.{Table}
-use Rattle.whole_image.specs.Damage.{IsFirstDamage, IsSound}
+use Rattle.whole_image.specs.Damage.{IsSound}
 use Rattle.whole_image.specs.Represents.{Represents}
-use Rattle.script.specs.declared.types.Command.{Command}
 use Rattle.script.specs.declared.types.Command.TheVariants as command
 use Rattle.script.specs.declared.types.Line.{Line}
 use Rattle.script.specs.declared.answers.LineReply.TheVariants as line
 use Rattle.script.specs.declared.answers.Said.{Said}
 use Rattle.script.specs.declared.status.Status.{Status}
 use Rattle.script.specs.declared.status.Status.TheVariants as status
-use Rattle.run_history.specs.Answers.{Answers, AnswersLine, BreaksOff, line_said}
+use Rattle.run_history.specs.Answers.{AnswersLine, line_said}
 use Rattle.run_history.specs.CrashSafe.{CrashSafe}
 use Rattle.run_history.specs.FirstImage.{FitsFirstImage}
 use Rattle.run_history.specs.Headline.{EndsRun, Headline, Replies}
@@ -29,7 +28,7 @@ use Rattle.run_history.specs.Progress.{HasCome}
 use Rattle.run_history.specs.States.{RunState, UpMount, calls_of, mounts_of, run_begins, with_up}
 use Rattle.run_mounts.specs.Safe.{StandsSafe}
 use Rattle.script_names.specs.Bindings.{AreNames}
-use Rattle.script_runs.specs.Running.{ComesTo, HasRoom, IsAnswer, IsBroken, IsDeviceAs, IsRun, IsUntouched, SaysNoDamage, SaysOfUntouched, StandsWhereKnown, StaysUntouched, TellsOf, disk_of_device, disk_of_run, records_of, records_with, run_of}
+use Rattle.script_runs.specs.Running.{ComesTo, HasRoom, IsAnswer, IsDeviceAs, IsRun, IsUntouched, SaysNoDamage, SaysOfUntouched, StandsWhereKnown, StaysUntouched, disk_of_device, disk_of_run, records_of, records_with, run_of}
 use Rattle.script_runs.specs.declared.running.Comes.{Comes}
 use Rattle.script_runs.specs.declared.running.Comes.TheVariants.{Answered, Unanswered}
 use Rattle.script_runs.specs.declared.running.Device.{Device}
@@ -86,7 +85,7 @@ begins {D = D} known cells sector_count fault_count arming lines old said run co
           past = past;
           device = subst (λ (d : Device D). IsDeviceAs known cells sector_count 0 None d) (sym idle) tt;
           room = subst (HasRoom run) (sym idle) tt;
-          armed = record { goes_on = ap (λ (x : D). (arming x).stopped) same ∙ goes_on; by_line = inl (ap (λ (x : D). (arming x).armed) same ∙ unarmed) };
+          armed = record { goes_on = ap (λ (x : D). (arming x).stopped) same ∙ goes_on; told = ap (λ (x : D). is_some (arming x).armed) same ∙ ap (λ (o : Option Stopping). is_some o) unarmed };
         };
         count = sym (ap length none);
         come = λ told. subst (λ (l : List Said). HasCome first lines l run_begins) (sym none) (come first lines);

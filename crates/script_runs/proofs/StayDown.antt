@@ -1,8 +1,8 @@
 -- What a mount line comes to whose mount did not come up.
-use Rattle.std.proofs.Common.{Vec, Global, ◌≡◌, ◌⊎◌, ◌∙◌, ◌+◌, ℕ, Bool, true, false, List, [], ◌∷◌, ◌++◌, refl, sym, ap, subst, inl, inr}
-use Rattle.std.specs.Prelude.{IsTrue, IfSome, MatchOption, Option, None, Some}
+use Rattle.std.proofs.Common.{Vec, Global, ◌≡◌, ◌∙◌, ◌+◌, ℕ, Bool, true, false, List, [], ◌∷◌, ◌++◌, refl, sym, ap, subst, inl, inr}
+use Rattle.std.specs.Prelude.{IsTrue, IfSome, Option, None, Some, is_some}
 use Rattle.std.proofs.lemmas.Option.{none-some, same_Some}
-use Rattle.disk_model.specs.Disk.{Arming, Cell}
+use Rattle.disk_model.specs.Disk.{Arming, Cell, Stopping}
 use Rattle.life_table.specs.declared.key.Key.{Key}
 use Rattle.life_table.specs.declared.types.MountRecord.{MountRecord}
 use Rattle.life_table.specs.declared.table.Table.{Table}
@@ -13,8 +13,8 @@ use Rattle.script.specs.declared.types.Command.TheVariants as command
 use Rattle.script.specs.declared.answers.LineReply.{LineReply}
 use Rattle.script.specs.declared.answers.LineReply.TheVariants as line
 use Rattle.run_history.specs.Answers.{AnswersMount, BreaksOff, FailsToMount, line_said}
-use Rattle.run_history.specs.Mounts.{MountStory, never_up, start_behind}
-use Rattle.run_history.specs.States.{RunState, UpMount, disarmed, ends_as, mounts_of, next_line, with_up}
+use Rattle.run_history.specs.Mounts.{never_up, start_behind}
+use Rattle.run_history.specs.States.{RunState, UpMount, disarmed, ends_as, mounts_of, with_up}
 use Rattle.script_runs.specs.Mounting.{IsIdle, StayedDown, failed_mount, records_begun, refusal_of}
 use Rattle.script_runs.specs.Running.{IsAnswer, IsArmedAs, IsBroken, IsDeviceAs, IsRun, records_of}
 use Rattle.run_mounts.specs.Safe.{IsFreshWith, StandsBehind, StandsDown, StandsSafe}
@@ -98,7 +98,7 @@ pub refused : {D : Type 0} (known sure : Bool) (cells : D → List Cell) (sector
     → IsAnswer known sure cells sector_count arming first number s command.Mount (line_said reply) (record { names = names; past = past; device = device.Idle m.disk })
 refused known sure cells sector_count arming first number s m names old past reply told answer idle stayed items refusal is asked goes_on = record {
   next = failed_mount first m.begun s;
-  run_is = run_failed known cells sector_count arming first s m.begun names old past m.disk idle stayed.fresh items (record { goes_on = sym asked ∙ goes_on; by_line = stayed.behind_writes.by_line });
+  run_is = run_failed known cells sector_count arming first s m.begun names old past m.disk idle stayed.fresh items (record { goes_on = sym asked ∙ goes_on; told = stayed.behind_writes.told });
   lines = lines_failed first s m.begun;
   answers = λ known_is. answers_idle first s (line_said reply) (failed_mount first m.begun s) idle.down
       (answers_refused first s m.fault m.begun reply (sym refusal ∙ is) stayed.fresh (stayed.unbegun known_is));
@@ -116,7 +116,7 @@ stopped_down known sure cells sector_count arming first number s m names old pas
     let idle_now : IsIdle (disarmed s) names old = record { down = idle.down; bound = idle.bound; records = idle.records } in
     record {
       next = failed_mount first m.begun (disarmed s);
-      run_is = run_failed known cells sector_count arming first (disarmed s) m.begun names old past disk idle_now stayed.fresh items (record { goes_on = goes_on; by_line = inl unarmed });
+      run_is = run_failed known cells sector_count arming first (disarmed s) m.begun names old past disk idle_now stayed.fresh items (record { goes_on = goes_on; told = ap (λ (o : Option Stopping). is_some o) unarmed });
       lines = lines_failed first (disarmed s) m.begun;
       answers = λ told. answers_idle first s (line_said line.Stopped) (failed_mount first m.begun (disarmed s)) idle.down
           (stayed.behind_writes.stopped (sym asked ∙ stopped), fails first (disarmed s) m.begun stayed.fresh);

@@ -1,25 +1,23 @@
 -- What a line comes to that stops the device, or arms a stop.
-use Rattle.std.proofs.Common.{Vec, Global, ◌≡◌, ◌⊎◌, ◌∙◌, ◌<◌, ◌≤◌, ◌+◌, ℕ, Bool, true, false, List, [], ◌∷◌, ◌++◌, length, refl, sym, ap, subst, inl, inr, arith}
-use Rattle.std.specs.Prelude.{IsTrue, Option, None, Some, vec_len, vec_capacity}
-use Rattle.life_limits.specs.declared.TheConstants.{MAX_NUMBERS}
+use Rattle.std.proofs.Common.{Vec, Global, ◌≡◌, ◌∙◌, ◌≤◌, ◌+◌, ℕ, Bool, true, false, List, [], ◌∷◌, ◌++◌, refl, sym, ap, subst, inr, arith}
+use Rattle.std.specs.Prelude.{Option, None, Some, is_some}
 use Rattle.life_bytes.specs.declared.sector.Sector.{Sector}
-use Rattle.disk_model.specs.Disk.{Arming, Cell, IsImage}
+use Rattle.disk_model.specs.Disk.{Arming, Cell, IsImage, Stopping}
 use Rattle.life_table.specs.declared.key.Key.{Key}
 use Rattle.life_table.specs.declared.types.MountRecord.{MountRecord}
 use Rattle.life_table.specs.declared.table.Table.{Table}
-use Rattle.whole_image.specs.Damage.{IsSound}
 use Rattle.script.specs.declared.types.Command.{Command}
 use Rattle.script.specs.declared.types.Command.TheVariants as command
 use Rattle.script.specs.declared.answers.LineReply.{LineReply}
 use Rattle.script.specs.declared.answers.LineReply.TheVariants as line
 use Rattle.script.specs.declared.answers.Said.{Said}
 use Rattle.run_history.specs.Answers.{line_said, stopped_now}
-use Rattle.run_history.specs.Mounts.{MountStory, left}
+use Rattle.run_history.specs.Mounts.{left}
 use Rattle.run_history.specs.States.{RunState, UpMount, disarmed, down_now, ends_as, mounts_of, next_line, table_now, with_up}
 use Rattle.script_names.specs.Bindings.{AreNames}
 use Rattle.actor_holds.specs.Holds.{AreHolds}
 use Rattle.run_mounts.specs.Safe.{StandsSafe}
-use Rattle.script_runs.specs.Running.{ComesTo, HasRoom, IsAnswer, IsArmedAs, IsDeviceAs, IsRun, IsUntouched, IsUpAs, SaysNoDamage, SaysOfUntouched, StandsWhereKnown, StaysUntouched, disk_of_device, disk_of_run, records_of, records_with, run_of}
+use Rattle.script_runs.specs.Running.{ComesTo, HasRoom, IsAnswer, IsDeviceAs, IsRun, IsUntouched, IsUpAs, SaysNoDamage, SaysOfUntouched, StandsWhereKnown, StaysUntouched, disk_of_device, disk_of_run, records_of, records_with, run_of}
 use Rattle.script_runs.specs.Stopping.{ComesToStop, IsArmedDevice, IsArmedOn, IsLeftIn}
 use Rattle.script_runs.specs.declared.running.Comes.{Comes}
 use Rattle.script_runs.specs.declared.running.Comes.TheVariants.{Answered, Unanswered}
@@ -43,7 +41,7 @@ stopped_idle known sure cells sector_count arming first number s names past old 
     past = is.past;
     device = subst (λ (o : Option UpMount). IsDeviceAs known cells sector_count (s.lines + 1) o (device.Idle new)) (sym none) tt;
     room = tt;
-    armed = record { goes_on = goes_on; by_line = inl unarmed };
+    armed = record { goes_on = goes_on; told = ap (λ (o : Option Stopping). is_some o) unarmed };
   };
   lines = refl;
   answers = λ told. (refl, ap (λ (o : Option UpMount). stopped_now o (disarmed s)) (sym none));
@@ -88,7 +86,7 @@ stopped_by {D = D} known sure cells sector_count arming fault_count first number
     past = stopped.records ∙ tells_up known cells sector_count s.lines s m past.items up up.mounted.story up_is is.past stand refl ∙ ap (λ (o : Option UpMount). records_of (with_up s.past o)) up_is;
     device = subst (λ (d : Device D). IsDeviceAs known cells sector_count (s.lines + 1) None d) (sym stopped.idle) tt;
     room = subst (HasRoom run) (sym stopped.idle) tt;
-    armed = record { goes_on = stopped.goes_on; by_line = inl stopped.unarmed };
+    armed = record { goes_on = stopped.goes_on; told = ap (λ (o : Option Stopping). is_some o) stopped.unarmed };
   };
   lines = refl;
   answers = λ told. (stopped.said_is, ap (λ (o : Option UpMount). stopped_now o (disarmed s)) (sym up_is));
@@ -128,6 +126,7 @@ armed_up known cells sector_count fault_count arming lines (Some m) (device.Moun
 armed_up known cells sector_count fault_count arming lines (Some m) (device.Mounted old) (device.Mounted new) is on = record {
   story = is.story ∙ sym on.story;
   going = is.going;
+  unheld = is.unheld;
   running = on.running m.start (table_now m) is.running;
   holds = subst (AreHolds m.story.entries) (sym on.holds) is.holds;
   steady = is.steady;
@@ -160,7 +159,7 @@ armed_line known sure cells sector_count fault_count arming first number s count
     past = is.past;
     device = armed_up known cells sector_count fault_count arming s.lines s.up old new is.device armed.on;
     room = armed_room known cells sector_count fault_count arming names past old new is.room armed.on;
-    armed = record { goes_on = ap (λ (a : Arming). a.stopped) armed.armed ∙ is.armed.goes_on; by_line = inr refl };
+    armed = record { goes_on = ap (λ (a : Arming). a.stopped) armed.armed ∙ is.armed.goes_on; told = ap (λ (a : Arming). is_some a.armed) armed.armed };
   };
   lines = refl;
   answers = λ told. (refl, refl);

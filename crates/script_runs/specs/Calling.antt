@@ -1,5 +1,5 @@
 -- Which call words begin where a mount is up, and what the line comes to once it is made.
-use Rattle.std.specs.Prelude.{◌≡◌, ◌≤◌, ◌<◌, ◌+◌, ◌⊎◌, ◌++◌, ◌∷◌, ℕ, Bool, true, false, IsTrue, List, [], Option, None, Some, Result, Ok, Err, if◌then◌else◌, length, nat_le}
+use Rattle.std.specs.Prelude.{◌≡◌, ◌≤◌, ◌<◌, ◌+◌, ℕ, Bool, false, IsTrue, List, [], Option, None, Some, Result, Ok, Err, if◌then◌else◌, length, nat_le}
 use Rattle.life_limits.specs.declared.TheConstants.{MAX_NUMBERS, MOUNT_LIMIT}
 use Rattle.disk_model.specs.Disk.{Arming, Cell}
 use Rattle.life_table.specs.declared.types.Call.{Call}
@@ -8,7 +8,7 @@ use Rattle.life_table.specs.declared.types.Entry.{Entry}
 use Rattle.life_table.specs.declared.types.MountRecord.{MountRecord}
 use Rattle.life_table.specs.declared.table.Table.{Table}
 use Rattle.life_table.specs.Legal.{after_call}
-use Rattle.life_table.specs.History.{key_of}
+use Rattle.life_table.specs.History.{closed, key_of}
 use Rattle.script.specs.declared.types.Spoken.{Spoken}
 use Rattle.script.specs.declared.types.Spoken.TheVariants as spoken
 use Rattle.script.specs.declared.answers.LineReply.{LineReply}
@@ -22,7 +22,7 @@ use Rattle.script_names.specs.declared.names.Names.{Names}
 use Rattle.actor_holds.specs.Holds.{AreHolds}
 use Rattle.run_mounts.specs.Calls.{IsWholeCall}
 use Rattle.run_mounts.specs.Safe.{StandsBehind}
-use Rattle.script_runs.specs.Running.{records_of}
+use Rattle.script_runs.specs.Running.{IsArmedBehind, records_of}
 use Rattle.script_runs.specs.declared.running.Up.{Up}
 
 -- ---- which call begins
@@ -44,13 +44,6 @@ call_held entries actor (Some made) = if holds_key entries actor (key_of made) t
 abbrev pub call_begun : ℕ → List Binding → List Entry → ℕ → Spoken → Result Call LineReply
 call_begun groups names entries actor words = if lacks_in groups words then Err line.NoGroup else call_held entries actor (call_meant names words)
 
--- ---- what is armed
-
--- What is armed behind writes: where the disk has stopped, a line had armed it.
-pub record IsArmedBy (armed : Bool) (arming : Arming) : Type 0 where
-  pub by_line : (arming.armed ≡ None) ⊎ (armed ≡ true)
-  pub stopped : arming.stopped ≡ true → armed ≡ true
-
 -- ---- a call that was made
 
 -- The call was made, and its entry is the last one of the mount's record; names and holds are as before it.
@@ -61,6 +54,7 @@ pub record IsMadeIn {D : Type 0} (known sure : Bool) (cells : D → List Cell) (
   pub bound : AreNames s.names names
   pub records : past ≡ records_of s.past
   pub holds : AreHolds before.story.entries up.holds
+  pub unheld : closed before.start ≡ before.start
   pub base : before.story.base < MOUNT_LIMIT
   pub few : length before.story.entries ≤ MAX_NUMBERS + s.lines
   pub made : Call
@@ -69,5 +63,5 @@ pub record IsMadeIn {D : Type 0} (known sure : Bool) (cells : D → List Cell) (
   pub answer : Reply
   pub story : up.mounted.story ≡ with_call before.story actor made answer
   pub running : IsRunning known cells sector_count before.start (after_call (table_now before) made answer) up.mounted
-  pub armed : IsArmedBy s.armed (arming up.mounted.store.disk)
+  pub armed : IsArmedBehind s.armed (arming up.mounted.store.disk)
   pub safe : IsTrue sure → StandsBehind first number s.past left before.start up.mounted.story (cells up.mounted.store.disk)

@@ -1,4 +1,4 @@
--- The lines that are run today: mounts, stops, and one actor's whole calls, without opens and closes.
+-- The lines that are run today: mounts, unmounts, stops, and one actor's whole calls, without opens and closes.
 use Rattle.std.specs.Prelude.{◌≡◌, ◌≤◌, ⊤, ℕ, List, Some, slice_get}
 use Rattle.script.specs.declared.types.Command.{Command}
 use Rattle.script.specs.declared.types.Command.TheVariants as command
@@ -21,6 +21,7 @@ AreSteadyWords other = ⊥
 
 abbrev pub IsSteadyLine : Command → Type 0
 IsSteadyLine command.Mount = ⊤
+IsSteadyLine command.Unmount = ⊤
 IsSteadyLine command.Stop = ⊤
 IsSteadyLine (command.Arm count first) = 1 ≤ count
 IsSteadyLine (command.Whole actor words) = (actor ≡ 0) × AreSteadyWords words

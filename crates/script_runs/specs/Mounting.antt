@@ -1,11 +1,11 @@
 -- What a mount line is told of the mount that it tries, and what it makes of the run.
-use Rattle.std.specs.Prelude.{◌≡◌, ◌<◌, ◌≤◌, ◌⊎◌, ◌∷◌, ◌++◌, ℕ, Bool, true, false, IsTrue, IfSome, List, [], Option, None, Some}
+use Rattle.std.specs.Prelude.{◌≡◌, ◌<◌, ◌≤◌, ◌⊎◌, ◌∷◌, ◌++◌, ℕ, Bool, false, IsTrue, IfSome, List, [], Option, None, Some}
 use Rattle.life_limits.specs.declared.TheConstants.{MAX_NUMBERS, MOUNT_LIMIT}
 use Rattle.life_bytes.specs.declared.sector.Sector.{Sector}
 use Rattle.disk_model.specs.Disk.{Arming, Cell, IsImage}
 use Rattle.life_table.specs.declared.types.MountRecord.{MountRecord}
 use Rattle.life_table.specs.declared.table.Table.{Table}
-use Rattle.life_table.specs.History.{recovered}
+use Rattle.life_table.specs.History.{closed, recovered}
 use Rattle.whole_image.specs.Damage.{IsSound}
 use Rattle.script.specs.declared.answers.LineReply.{LineReply}
 use Rattle.script.specs.declared.answers.LineReply.TheVariants as line
@@ -20,7 +20,7 @@ use Rattle.run_history.specs.States.{RunState, down_now, next_line}
 use Rattle.mounted_calls.specs.Running.{IsRunning}
 use Rattle.script_names.specs.Bindings.{AreNames}
 use Rattle.life_table.specs.declared.key.Key.{Key}
-use Rattle.script_runs.specs.Running.{records_of}
+use Rattle.script_runs.specs.Running.{IsArmedBehind, records_of}
 use Rattle.run_mounts.specs.Safe.{IsFreshWith, IsUpBehind, StandsDown}
 
 -- No mount is up: what the names and the records of mounts are.
@@ -29,15 +29,10 @@ pub record IsIdle (s : RunState) (names : List (List ℕ × Key)) (past : List M
   pub bound : AreNames s.names names
   pub records : past ≡ records_of s.past
 
--- What a line leaves armed in which the device may have stopped: it was armed by a line.
-pub record IsArmedBehind (armed : Bool) (arming : Arming) : Type 0 where
-  pub by_line : (arming.armed ≡ None) ⊎ (armed ≡ true)
-  pub stopped : arming.stopped ≡ true → armed ≡ true
-
 -- A mount came up behind the mounts of a run, and has freed what recovery frees. Where it is sure that the run stands safe, it does with this mount.
 pub record CameUp {D : Type 0} (known sure : Bool) (cells : D → List Cell) (sector_count : D → ℕ) (arming : D → Arming) (first : Table) (number : ℕ) (s : RunState) (m : Mounted D) : Type 0 where
   pub behind : IsTrue sure → IsUpBehind known cells sector_count first number s.past m
-  pub running : (start : Table) × IsRunning known cells sector_count start (recovered start) m
+  pub running : (start : Table) × (closed start ≡ start) × IsRunning known cells sector_count start (recovered start) m
   pub fresh : IsFreshWith m.story.freed m.story
   pub base : m.story.base < MOUNT_LIMIT
   pub few : m.story.freed ≤ MAX_NUMBERS

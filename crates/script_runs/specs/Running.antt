@@ -1,10 +1,11 @@
 -- How a runner's state stands for the run as its definitions have it, and what each line owes.
-use Rattle.std.specs.Prelude.{◌≡◌, ◌≤◌, ◌<◌, ◌+◌, ◌⊎◌, ◌++◌, ◌∷◌, ⊤, ℕ, Bool, true, false, IsTrue, List, [], Option, None, Some, map, length, vec_len, vec_capacity}
+use Rattle.std.specs.Prelude.{◌≡◌, ◌≤◌, ◌<◌, ◌+◌, ◌⊎◌, ◌++◌, ◌∷◌, ⊤, ℕ, Bool, true, false, IsTrue, List, [], Option, None, Some, is_some, map, length, vec_len, vec_capacity}
 use Rattle.life_limits.specs.declared.TheConstants.{MAX_NUMBERS, MAX_SCRIPT_BYTES, MOUNT_LIMIT}
 use Rattle.life_bytes.specs.declared.sector.Sector.{Sector}
 use Rattle.disk_model.specs.Disk.{Arming, Cell, IsImage}
 use Rattle.life_table.specs.declared.types.MountRecord.{MountRecord}
 use Rattle.life_table.specs.declared.table.Table.{Table}
+use Rattle.life_table.specs.History.{closed}
 use Rattle.whole_image.specs.Damage.{IsFirstDamage, IsSound}
 use Rattle.script.specs.declared.types.Command.{Command}
 use Rattle.script.specs.declared.types.Command.TheVariants as command
@@ -39,10 +40,11 @@ disk_of_run run = disk_of_device run.device
 abbrev pub records_of : List MountStory → List MountRecord
 records_of mounts = map (λ (m : MountStory). m.story) mounts
 
--- A mount that is up: from a table, with what is recorded of it, and who holds what. No call is going on, and the table can be told from the record.
+-- A mount that is up: from a table of which nobody held an inode, with what is recorded of it, and who holds what. No call is going on, and the table can be told from the record.
 pub record IsUpAs {D : Type 0} (known : Bool) (cells : D → List Cell) (sector_count : D → ℕ) (lines : ℕ) (m : UpMount) (up : Up D) : Type 0 where
   pub story : m.story ≡ up.mounted.story
   pub going : m.going ≡ []
+  pub unheld : closed m.start ≡ m.start
   pub running : IsRunning known cells sector_count m.start (table_now m) up.mounted
   pub holds : AreHolds m.story.entries up.holds
   pub steady : AreSteady m.story.entries
@@ -60,10 +62,15 @@ abbrev pub HasRoom : {D : Type 0} → Run D → Device D → Type 0
 HasRoom run (device.Idle disk) = ⊤
 HasRoom run (device.Mounted up) = vec_len run.past < vec_capacity run.past
 
--- A device between two lines: it has not stopped, and what is armed was armed by a line.
+-- A device between two lines: it has not stopped, and a stop is armed exactly where a line armed one that has not come.
 pub record IsArmedAs (armed : Bool) (arming : Arming) : Type 0 where
   pub goes_on : arming.stopped ≡ false
-  pub by_line : (arming.armed ≡ None) ⊎ (armed ≡ true)
+  pub told : is_some arming.armed ≡ armed
+
+-- The same behind writes, in which it may have stopped where one was armed.
+pub record IsArmedBehind (armed : Bool) (arming : Arming) : Type 0 where
+  pub told : is_some arming.armed ≡ armed
+  pub stopped : arming.stopped ≡ true → armed ≡ true
 
 -- The runner's state is that of the run between two lines.
 pub record IsRun {D : Type 0} (known : Bool) (cells : D → List Cell) (sector_count : D → ℕ) (arming : D → Arming) (s : RunState) (run : Run D) : Type 0 where

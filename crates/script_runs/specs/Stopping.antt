@@ -38,6 +38,7 @@ ComesToStop cells arming fault_count names past m (Unanswered run) = ⊥
 pub record IsArmedMount {D : Type 0} (known : Bool) (cells : D → List Cell) (sector_count fault_count : D → ℕ) (arming : D → Arming) (old new : Up D) : Type 0 where
   pub holds : new.holds ≡ old.holds
   pub story : new.mounted.story ≡ old.mounted.story
+  pub stage : new.mounted.store.stage ≡ old.mounted.store.stage
   pub running : (start t : Table) → IsRunning known cells sector_count start t old.mounted → IsRunning known cells sector_count start t new.mounted
 
 abbrev pub IsArmedOn : {D : Type 0} → Bool → (D → List Cell) → (D → ℕ) → (D → ℕ) → (D → Arming) → Device D → Device D → Type 0

@@ -3,18 +3,24 @@
 ghost use Rattle.std.specs.Prelude.{◌≡◌, ◌<◌, ◌≤◌, ◌+◌, ◌++◌, ◌∷◌, ◌^◌, ◌-◌, ℕ, Bool, List, [], Some, Ok, None, OnOk, IsTrue, length, vec_len, vec_capacity};
 ghost use Rattle.life_limits.specs.declared.TheConstants.{MAX_SCRIPT_BYTES};
 ghost use Rattle.life_bytes.specs.declared.sector.Sector.{Sector};
+ghost use Rattle.life_table.specs.declared.types.Call.{Call};
+ghost use Rattle.life_table.specs.declared.types.Reply.{Reply};
+ghost use Rattle.life_table.specs.declared.types.Event.TheVariants.{Called};
 ghost use Rattle.life_table.specs.declared.types.Entry.{Entry};
 ghost use Rattle.life_table.specs.declared.table.Table.{Table};
 ghost use Rattle.life_table.specs.History.{IsHeld, key_of};
 ghost use Rattle.script.specs.declared.types.Command.TheVariants as command;
 ghost use Rattle.run_history.specs.Mounts.{MountStory, changes_made};
 ghost use Rattle.run_history.specs.States.{Binding, RunState, UpMount, beginning, begun, holds_key, names_after};
-ghost use Rattle.mounted_calls.specs.Calls.{NamesGroup};
+ghost use Rattle.mounted_calls.specs.Calls.{NamesGroup, with_call};
 ghost use Rattle.mounted_calls.specs.Running.{IsRunning};
 ghost use Rattle.script_names.specs.Bindings.{AreNames};
 ghost use Rattle.actor_holds.specs.Holds.{AreHolds, IsSteady};
 ghost use Rattle.run_mounts.specs.Calls.{IsWholeCall};
 ghost use Rattle.run_mounts.specs.Safe.{StandsSafe};
+ghost use Rattle.run_faults.specs.News.{news_of_event};
+ghost use Rattle.script_runs.specs.Faults.{IsTold, TellsOfLog};
+ghost use Rattle.script_runs.specs.declared.running.Up.{Up};
 ghost use Rattle.script_runs.specs.Lines.{AreSteadyWords};
 ghost use Rattle.script_runs.specs.Running.{ComesTo, HasLine, IsRun, IsUntouched, SaysNoDamage, StandsWhereKnown, StaysUntouched, disk_of_run, run_of};
 ghost use Rattle.script_runs.specs.Calling.{IsMadeIn, call_begun, call_held, lacks_in};
@@ -135,6 +141,8 @@ fn answer_made<D: Restarts>(
     ensures run { (sure : Bool) (first : Table) (number : ℕ) (s : RunState) → IsMadeIn D.known sure D.cells D.sector_count D.arming first number s actor spoken.now names past.items up
         → ComesTo D.known sure D.cells D.sector_count D.arming first number s (command.Whole actor spoken.now) result }
     ensures no_damage { SaysNoDamage result }
+    ensures log { (old : Up D) (called : Call) (answer : Reply) → up.mounted.story ≡ with_call old.mounted.story actor called answer
+        → IsTold D.fault_count (news_of_event (Called called answer)) (MountedOn old) (MountedOn up) → TellsOfLog D.fault_count past.items (MountedOn old) result }
     ensures count { D.fault_count up.mounted.store.disk ≤ D.fault_count (disk_of_run (run_of result)) }
 {
     let mut names = names;
@@ -178,6 +186,7 @@ fn make_call<D: Restarts>(
         → (IsTrue sure → begun s m actor spoken.now None ≡ Ok (beginning s m actor spoken.now called))
         → StandsWhereKnown sure first number s (D.cells up.mounted.store.disk) → ComesTo D.known sure D.cells D.sector_count D.arming first number s (command.Whole actor spoken.now) result }
     ensures no_damage { SaysNoDamage result }
+    ensures log { TellsOfLog D.fault_count past.items (MountedOn up) result }
     ensures count { D.fault_count up.mounted.store.disk ≤ D.fault_count (disk_of_run (run_of result)) }
 {
     let mut up = up;
@@ -209,6 +218,7 @@ fn call_up<D: Restarts>(
         → IsRun D.known D.cells D.sector_count D.arming s (record { names = names; past = past; device = MountedOn up }) → s.lines < MAX_SCRIPT_BYTES
         → StandsWhereKnown sure first number s (D.cells up.mounted.store.disk) → ComesTo D.known sure D.cells D.sector_count D.arming first number s (command.Whole actor spoken.now) result }
     ensures no_damage { SaysNoDamage result }
+    ensures log { TellsOfLog D.fault_count past.items (MountedOn up) result }
     ensures count { D.fault_count up.mounted.store.disk ≤ D.fault_count (disk_of_run (run_of result)) }
 {
     match begun_call(&names, &up.holds, up.mounted.geometry.groups, actor, spoken) {
@@ -236,6 +246,7 @@ pub fn call_line<D: Restarts>(alloc: Global, run: Run<D>, actor: u32, spoken: &S
         → StandsWhereKnown sure first number s (D.cells (disk_of_run run)) → ComesTo D.known sure D.cells D.sector_count D.arming first number s (command.Whole actor spoken.now) result }
     ensures untouched { IsTrue D.known → (before : List Sector) → IsUntouched D.cells before run → StaysUntouched D.cells before (command.Whole actor spoken.now) result }
     ensures sound { IsTrue D.known → (first : Table) (number : ℕ) (mounts : List MountStory) → StandsSafe first number mounts (D.cells (disk_of_run run)) → SaysNoDamage result }
+    ensures log { TellsOfLog D.fault_count run.past.items run.device result }
     ensures count { D.fault_count (disk_of_run run) ≤ D.fault_count (disk_of_run (run_of result)) }
 {
     let Run {

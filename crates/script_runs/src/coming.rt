@@ -4,14 +4,18 @@ ghost use Rattle.std.specs.Prelude.{◌≡◌, ◌<◌, ◌≤◌, ◌+◌, ℕ,
 ghost use Rattle.life_limits.specs.declared.TheConstants.{MAX_SCRIPT_BYTES};
 ghost use Rattle.life_bytes.specs.declared.sector.Sector.{Sector};
 ghost use Rattle.disk_model.specs.Disk.{IsImage, as_read};
+ghost use Rattle.log_store.specs.declared.store.Stage.TheVariants.{Free};
 ghost use Rattle.life_table.specs.declared.table.Table.{Table};
 ghost use Rattle.whole_image.specs.Damage.{IsSound};
+ghost use Rattle.mount.specs.Faults.{IsDeviceCause};
 ghost use Rattle.mount.specs.declared.fault.MountFault.TheVariants.{Damaged};
 ghost use Rattle.script.specs.declared.types.Command.TheVariants as command;
 ghost use Rattle.run_history.specs.Mounts.{MountStory};
 ghost use Rattle.run_history.specs.States.{RunState};
 ghost use Rattle.run_mounts.specs.Safe.{StandsSafe, base_behind};
 ghost use Rattle.script_runs.specs.Running.{ComesTo, HasLine, IsArmedAs, IsRun, IsUntouched, SaysNoDamage, StandsWhereKnown, StaysUntouched, disk_of_run, records_of, run_of};
+ghost use Rattle.script_runs.specs.Faults.{TellsOfLog};
+ghost use Rattle.script_runs.specs.declared.running.Device.TheVariants.{Idle};
 ghost use Rattle.script_runs.specs.Mounting.{CameUp, IsIdle, IsRefused, StayedDown, records_begun, refusal_of};
 
 use crate::restarts::{Restarts, restarted};
@@ -46,6 +50,7 @@ fn came_up<D: Restarts>(
     ensures run { (sure : Bool) (first : Table) (number : ℕ) (s : RunState) → IsIdle s names past.items → CameUp D.known sure D.cells D.sector_count D.arming first number s mounted
         → ComesTo D.known sure D.cells D.sector_count D.arming first number s command.Mount result }
     ensures no_damage { SaysNoDamage result }
+    ensures log { mounted.store.stage ≡ Free → (disk : D) → TellsOfLog D.fault_count past.items (Idle disk) result }
     ensures count { D.fault_count mounted.store.disk ≤ D.fault_count (disk_of_run (run_of result)) }
 {
     mounts_cut_off_stand_safe();
@@ -106,6 +111,7 @@ fn stayed_down<D: Restarts>(names: Names, past: Vec<MountRecord>, down: NotMount
         → ComesTo D.known sure D.cells D.sector_count D.arming first number s command.Mount result }
     ensures untouched { (before : List Sector) → past.items ≡ [] → IsRefused D.cells D.arming before down → StaysUntouched D.cells before command.Mount result }
     ensures no_damage { ((rule sector : ℕ) → ¬ (down.fault ≡ Damaged rule sector)) → SaysNoDamage result }
+    ensures log { (disk : D) → IsDeviceCause (D.fault_count disk) (D.fault_count down.disk) down.fault → TellsOfLog D.fault_count past.items (Idle disk) result }
     ensures count { D.fault_count down.disk ≤ D.fault_count (disk_of_run (run_of result)) }
 {
     let NotMounted { disk, fault, begun } = down;
@@ -155,6 +161,7 @@ fn mount_idle<D: Restarts>(alloc: Global, names: Names, past: Vec<MountRecord>, 
     ensures untouched { IsTrue D.known → (before : List Sector) → past.items ≡ [] → ((image : List Sector) → IsImage (D.cells disk) image → image ≡ before)
         → StaysUntouched D.cells before command.Mount result }
     ensures sound { IsTrue D.known → IsSound (as_read (D.cells disk)) → SaysNoDamage result }
+    ensures log { TellsOfLog D.fault_count past.items (Idle disk) result }
     ensures count { D.fault_count disk ≤ D.fault_count (disk_of_run (run_of result)) }
 {
     one_first_damage();
@@ -181,6 +188,7 @@ pub fn mount_line<D: Restarts>(alloc: Global, run: Run<D>) -> Comes<D>
         → StandsWhereKnown sure first number s (D.cells (disk_of_run run)) → ComesTo D.known sure D.cells D.sector_count D.arming first number s command.Mount result }
     ensures untouched { IsTrue D.known → (before : List Sector) → IsUntouched D.cells before run → StaysUntouched D.cells before command.Mount result }
     ensures sound { IsTrue D.known → (first : Table) (number : ℕ) (mounts : List MountStory) → StandsSafe first number mounts (D.cells (disk_of_run run)) → SaysNoDamage result }
+    ensures log { TellsOfLog D.fault_count run.past.items run.device result }
     ensures count { D.fault_count (disk_of_run run) ≤ D.fault_count (disk_of_run (run_of result)) }
 {
     let Run {

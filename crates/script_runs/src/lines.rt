@@ -7,6 +7,7 @@ ghost use Rattle.life_table.specs.declared.table.Table.{Table};
 ghost use Rattle.run_history.specs.Mounts.{MountStory};
 ghost use Rattle.run_history.specs.States.{RunState};
 ghost use Rattle.run_mounts.specs.Safe.{StandsSafe};
+ghost use Rattle.script_runs.specs.Faults.{TellsOfLog};
 ghost use Rattle.script_runs.specs.Lines.{IsSteadyLine};
 ghost use Rattle.script_runs.specs.Running.{ComesTo, HasLine, IsRun, IsUntouched, SaysNoDamage, StandsWhereKnown, StaysUntouched, disk_of_run, run_of};
 
@@ -15,6 +16,7 @@ use crate::coming::mount_line;
 use crate::restarts::Restarts;
 use crate::running::{Comes, Run};
 use crate::stopping::{arm_line, stop_line};
+use crate::unmounting::unmount_line;
 use script::Command;
 use std::alloc::Global;
 
@@ -26,16 +28,17 @@ pub fn answer_line<D: Restarts>(alloc: Global, run: Run<D>, command: &Command) -
         → StandsWhereKnown sure first number s (D.cells (disk_of_run run)) → ComesTo D.known sure D.cells D.sector_count D.arming first number s command.now result }
     ensures untouched { IsTrue D.known → (before : List Sector) → IsUntouched D.cells before run → StaysUntouched D.cells before command.now result }
     ensures sound { IsTrue D.known → (first : Table) (number : ℕ) (mounts : List MountStory) → StandsSafe first number mounts (D.cells (disk_of_run run)) → SaysNoDamage result }
+    ensures log { TellsOfLog D.fault_count run.past.items run.device result }
     ensures count { D.fault_count (disk_of_run run) ≤ D.fault_count (disk_of_run (run_of result)) }
 {
     match command {
         Command::Mount => mount_line(alloc, run),
+        Command::Unmount => unmount_line(alloc, run),
         Command::Stop => stop_line(run),
         Command::Arm { count, first } => arm_line(run, *count, *first),
         Command::Whole { actor, spoken } => call_line(alloc, run, *actor, spoken),
         // No line that is run yet.
-        Command::Unmount
-        | Command::Bind { .. }
+        Command::Bind { .. }
         | Command::Begin { .. }
         | Command::Step { .. }
         | Command::Finish { .. } => Comes::Unanswered(run),

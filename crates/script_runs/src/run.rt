@@ -8,6 +8,8 @@ ghost use Rattle.whole_image.specs.Damage.{IsSound};
 ghost use Rattle.script.specs.declared.status.Status.TheVariants as status;
 ghost use Rattle.run_history.specs.FirstImage.{FitsFirstImage};
 ghost use Rattle.run_history.specs.Headline.{Headline};
+ghost use Rattle.run_faults.specs.Log.{KeepToLog, no_mount};
+ghost use Rattle.run_faults.specs.Told.{TellsOfFaults};
 ghost use Rattle.script_runs.specs.Lines.{AreSteadyLines};
 ghost use Rattle.script_runs.specs.Running.{HasRoom, disk_of_run, records_with};
 
@@ -17,6 +19,7 @@ use crate::running::{Comes, Device, Run};
 use crate::stopping::leave;
 use disk_model::Disk;
 use life_table::MountRecord;
+use run_faults::runs_tell_on;
 use run_history::{answered_calls_stand_between, runs_go_on, runs_without_lines_are_crash_safe};
 use script::{Line, Said, Status};
 use script_names::Names;
@@ -81,9 +84,13 @@ pub fn run_script<D: Restarts>(alloc: Global, disk: D, lines: &[Line]) -> Ended<
     ensures status { (result.status ≡ status.Good) ⊎ (result.status ≡ status.NoMemory) }
     ensures all { result.status ≡ status.Good → length result.said.items ≡ length lines.now }
     ensures most { length result.said.items ≤ length lines.now }
+    // What the answers tell of the log, and of the disk's faults.
+    ensures log { KeepToLog result.mounts.items no_mount result.said.items }
+    ensures faults { TellsOfFaults result.mounts.items result.said.items (D.fault_count disk) (D.fault_count result.disk) }
     ensures count { D.fault_count disk ≤ D.fault_count result.disk }
 {
     runs_go_on();
+    runs_tell_on();
     runs_without_lines_are_crash_safe();
     answered_calls_stand_between();
     sound_images_represent_a_table();

@@ -9,6 +9,7 @@ ghost use Rattle.run_history.specs.Mounts.{MountStory};
 ghost use Rattle.run_history.specs.States.{RunState};
 ghost use Rattle.run_mounts.specs.Safe.{StandsSafe};
 ghost use Rattle.script_runs.specs.Running.{ComesTo, HasLine, IsRun, IsUntouched, SaysNoDamage, StandsWhereKnown, StaysUntouched, disk_of_run, run_of};
+ghost use Rattle.script_runs.specs.Faults.{TellsOfLog};
 ghost use Rattle.script_runs.specs.Stopping.{ComesToStop, IsArmedDevice};
 
 use crate::restarts::{Restarts, restarted};
@@ -58,6 +59,7 @@ pub fn stop_line<D: Restarts>(run: Run<D>) -> Comes<D>
         → StandsWhereKnown sure first number s (D.cells (disk_of_run run)) → ComesTo D.known sure D.cells D.sector_count D.arming first number s command.Stop result }
     ensures untouched { IsTrue D.known → (before : List Sector) → IsUntouched D.cells before run → StaysUntouched D.cells before command.Stop result }
     ensures sound { IsTrue D.known → (first : Table) (number : ℕ) (mounts : List MountStory) → StandsSafe first number mounts (D.cells (disk_of_run run)) → SaysNoDamage result }
+    ensures log { TellsOfLog D.fault_count run.past.items run.device result }
     ensures count { D.fault_count (disk_of_run run) ≤ D.fault_count (disk_of_run (run_of result)) }
 {
     let Run {
@@ -108,6 +110,7 @@ pub fn arm_line<D: Restarts>(run: Run<D>, count: u32, sectors: u32) -> Comes<D>
         → StandsWhereKnown sure first number s (D.cells (disk_of_run run)) → ComesTo D.known sure D.cells D.sector_count D.arming first number s (command.Arm count sectors) result }
     ensures untouched { IsTrue D.known → (before : List Sector) → IsUntouched D.cells before run → StaysUntouched D.cells before (command.Arm count sectors) result }
     ensures sound { IsTrue D.known → (first : Table) (number : ℕ) (mounts : List MountStory) → StandsSafe first number mounts (D.cells (disk_of_run run)) → SaysNoDamage result }
+    ensures log { TellsOfLog D.fault_count run.past.items run.device result }
     ensures count { D.fault_count (disk_of_run run) ≤ D.fault_count (disk_of_run (run_of result)) }
 {
     let Run {

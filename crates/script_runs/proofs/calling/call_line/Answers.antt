@@ -1,9 +1,13 @@
-use Rattle.std.proofs.Common.{◌≡◌, [], subst, sym}
+use Rattle.std.proofs.Common.{◌≡◌, [], subst, sym, refl}
 use Rattle.script.specs.declared.types.Command.TheVariants as command
 use Rattle.script_runs.specs.Running.{ComesTo, IsRun, StandsWhereKnown, disk_of_device, records_with}
 use Rattle.script_runs.specs.declared.running.Comes.{Comes}
 use Rattle.script_runs.specs.declared.running.Device.{Device}
 use Rattle.script_runs.proofs.Made.{no_more_records, none_up, unmounted_line}
+use Rattle.script.specs.declared.answers.LineReply.TheVariants as line
+use Rattle.script_runs.specs.Faults.{TellsOfLog}
+use Rattle.script_runs.specs.declared.running.Device.TheVariants as device
+use Rattle.script_runs.proofs.Tells.{plain_line}
 use Rattle.script_runs.proofs.calling.call_line.Goals as goal
 
 pub returns-in-Idle-clause-run : goal.returns-in-Idle-clause-run
@@ -28,3 +32,16 @@ pub returns-in-Mounted-clause-untouched : goal.returns-in-Mounted-clause-untouch
 returns-in-Mounted-clause-untouched g c = λ known before is.
     let r = c.args.run in
     absurd (no_more_records r.past.items c.in-Mounted.up.mounted.story (subst (λ (x : Device g.row.D.Denot). records_with r.past.items x ≡ []) c.in-Mounted.is is.none))
+
+pub returns-in-Idle-clause-log : goal.returns-in-Idle-clause-log
+returns-in-Idle-clause-log g c =
+    let d = g.D.Disk in
+    let r = c.args.run in
+    subst (λ (x : Device g.row.D.Denot). TellsOfLog d.fault_count r.past.items x c.answered.result) (sym c.in-Idle.is)
+    (subst (TellsOfLog d.fault_count r.past.items (device.Idle c.in-Idle.disk)) (sym c.answered.ensures)
+    (plain_line d.fault_count (device.Idle c.in-Idle.disk) r.names r.past line.NotMounted refl))
+
+pub returns-in-Mounted-clause-log : goal.returns-in-Mounted-clause-log
+returns-in-Mounted-clause-log g c =
+    let d = g.D.Disk in
+    subst (λ (x : Device g.row.D.Denot). TellsOfLog d.fault_count c.args.run.past.items x c.call_up.result) (sym c.in-Mounted.is) c.call_up.ensures.log

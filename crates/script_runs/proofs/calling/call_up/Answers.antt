@@ -1,4 +1,4 @@
-use Rattle.std.proofs.Common.{◌≡◌, ◌+◌, ◌<◌, subst, sym, ◌∙◌}
+use Rattle.std.proofs.Common.{◌+◌, ◌<◌, subst, sym, ◌∙◌}
 use Rattle.std.specs.Prelude.{Err, Ok}
 use Rattle.life_table.specs.declared.types.MountRecord.{MountRecord}
 use Rattle.life_table.specs.History.{IsHeld, key_of}
@@ -8,8 +8,11 @@ use Rattle.run_history.specs.Mounts.{changes_made}
 use Rattle.run_history.specs.States.{table_now}
 use Rattle.script_runs.specs.Running.{ComesTo, SaysNoDamage}
 use Rattle.script_runs.specs.declared.running.Comes.{Comes}
-use Rattle.script_runs.proofs.Begun.{begun_as, may_be_made, no_damage}
+use Rattle.script_runs.proofs.Begun.{begun_as, may_be_made, no_damage, nothing_refused}
 use Rattle.script_runs.proofs.Made.{groups_are, refused_line, same_reply, up_mount, within}
+use Rattle.script_runs.specs.Faults.{TellsOfLog}
+use Rattle.script_runs.specs.declared.running.Device.TheVariants as device
+use Rattle.script_runs.proofs.Tells.{plain_line}
 use Rattle.script_runs.proofs.calling.call_up.Goals as goal
 
 pub make_call-requires-clause-kind : goal.make_call-requires-clause-kind
@@ -84,3 +87,14 @@ returns-in-Err-clause-no_damage g c =
     subst (λ (x : Comes g.row.D.Denot). SaysNoDamage x) (sym c.answered.ensures)
     (λ rule sector said. no_damage up.mounted.geometry.groups h.s.names is.0.story.entries c.args.actor c.args.spoken.now c.in-Err.reply rule sector
     (sym (c.begun_call.ensures h.s.names is.0.story.entries h.run_is.names is.2.holds) ∙ c.in-Err.is) (same_reply c.in-Err.reply (line.Damaged rule sector) said))
+
+pub returns-in-Err-clause-log : goal.returns-in-Err-clause-log
+returns-in-Err-clause-log g c =
+    let d = g.D.Disk in
+    let up = c.args.up in
+    let h = c.requires.line in
+    let is = up_mount d.known d.cells d.sector_count h.s.lines h.s.up up h.run_is.device in
+    subst (TellsOfLog d.fault_count c.args.past.items (device.Mounted up)) (sym c.answered.ensures)
+    (plain_line d.fault_count (device.Mounted up) c.args.names c.args.past c.in-Err.reply
+    (nothing_refused up.mounted.geometry.groups h.s.names is.0.story.entries c.args.actor c.args.spoken.now c.in-Err.reply
+    (sym (c.begun_call.ensures h.s.names is.0.story.entries h.run_is.names is.2.holds) ∙ c.in-Err.is)))

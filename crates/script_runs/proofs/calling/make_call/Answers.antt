@@ -1,6 +1,9 @@
-use Rattle.std.proofs.Common.{refl}
+use Rattle.std.proofs.Common.{refl, sym, subst}
 use Rattle.run_history.specs.States.{table_now}
 use Rattle.script_runs.proofs.Made.{is_made, one_entry, stands_left, uncalled_broken, up_as}
+use Rattle.script_runs.proofs.CallTells.{called_tells}
+use Rattle.script_runs.proofs.Tells.{last_record}
+use Rattle.run_faults.specs.Progress.{EntriesStay}
 use Rattle.script_runs.proofs.calling.make_call.Goals as goal
 
 pub answer_made-requires-clause-entry : goal.answer_made-requires-clause-entry
@@ -27,3 +30,19 @@ returns-in-Err-clause-run g c = λ sure sound first number s m run is begins sta
     let stand = up_as d.known d.cells d.sector_count s.lines s.up m up is run.device in
     uncalled_broken d.known sure d.cells d.sector_count d.arming first number s m c.args.actor c.args.spoken.now up _ c.call_on.new.mounted is run.past stand
     (c.in-Err.ensures.uncalled m.start (table_now m) stand.running) refl c.requires.room stands
+
+pub returns-in-Ok-clause-log : goal.returns-in-Ok-clause-log
+returns-in-Ok-clause-log g c =
+    let d = g.D.Disk in
+    let up = c.args.up in
+    let run = c.requires.running in
+    let called = c.in-Ok.ensures.called run.0 run.1 run.2 in
+    c.answer_made.ensures.log up c.args.called called.answer called.story
+    (called_tells d.known d.cells d.sector_count d.fault_count run.0 run.1 c.args.actor c.args.called up (record { mounted = c.call_on.new.mounted; holds = up.holds }) c.requires.kind called)
+
+pub returns-in-Err-clause-log : goal.returns-in-Err-clause-log
+returns-in-Err-clause-log g c =
+    let run = c.requires.running in
+    let uncalled = c.in-Err.ensures.uncalled run.0 run.1 run.2 in
+    last_record c.args.past.items c.args.up.mounted.story c.call_on.new.mounted.story
+    (subst (EntriesStay c.args.up.mounted.story) (sym uncalled.story) (λ place entry at. at))

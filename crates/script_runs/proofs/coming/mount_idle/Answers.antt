@@ -1,4 +1,4 @@
-use Rattle.std.proofs.Common.{◌∙◌, subst, sym}
+use Rattle.std.proofs.Common.{◌∙◌, subst}
 use Rattle.script.specs.declared.types.Command.TheVariants as command
 use Rattle.disk_model.specs.Disk.{as_read}
 use Rattle.whole_image.specs.Damage.{IsSound}
@@ -6,6 +6,10 @@ use Rattle.mount.specs.Faults.{IsMountCause}
 use Rattle.script_runs.proofs.Armed.{armed_behind, armed_down}
 use Rattle.script_runs.proofs.Idle.{stands_idle}
 use Rattle.script_runs.proofs.Untouched.{image_before, kept_before, sound_stays, unbegun_damaged}
+use Rattle.life_table.specs.declared.types.MountRecord.{MountRecord}
+use Rattle.std.specs.Prelude.{List}
+use Rattle.script_runs.specs.Faults.{TellsOfLog}
+use Rattle.script_runs.specs.declared.running.Device.TheVariants.{Idle}
 use Rattle.script_runs.proofs.coming.mount_idle.Goals as goal
 
 pub returns-in-Ok-clause-run : goal.returns-in-Ok-clause-run
@@ -52,3 +56,15 @@ returns-in-Err-clause-untouched g c = λ told before none left.
       goes_on = c.requires.goes_on;
       arms = e.writes_down;
     })
+
+pub returns-in-Ok-clause-log : goal.returns-in-Ok-clause-log
+returns-in-Ok-clause-log g c =
+    let d = g.D.Disk in
+    subst (λ (past : List MountRecord). TellsOfLog d.fault_count past (Idle c.args.disk) c.came_up.result) c.reserve.ensures.items
+    (c.came_up.ensures.log c.in-Ok.ensures.free c.args.disk)
+
+pub returns-in-Err-clause-log : goal.returns-in-Err-clause-log
+returns-in-Err-clause-log g c =
+    let d = g.D.Disk in
+    subst (λ (past : List MountRecord). TellsOfLog d.fault_count past (Idle c.args.disk) c.stayed_down.result) c.reserve.ensures.items
+    (c.stayed_down.ensures.log c.args.disk c.in-Err.ensures.device)

@@ -1,6 +1,5 @@
 use Rattle.std.proofs.Common.{subst, sym}
 use Rattle.script.specs.declared.types.Command.{Command}
-use Rattle.script.specs.declared.types.Command.TheVariants as command
 use Rattle.script_runs.specs.Running.{ComesTo, StaysUntouched}
 use Rattle.script_runs.proofs.lines.answer_line.Goals as goal
 
@@ -39,3 +38,12 @@ returns-in-Whole-clause-run g c = λ sure tells first number s run few stands.
 pub returns-in-Whole-clause-untouched : goal.returns-in-Whole-clause-untouched
 returns-in-Whole-clause-untouched g c = λ told before is.
     subst (λ (x : Command). StaysUntouched g.D.Disk.cells before x c.call_line.result) (sym c.in-Whole.is) (c.call_line.ensures.untouched told before is)
+
+pub returns-in-Unmount-clause-run : goal.returns-in-Unmount-clause-run
+returns-in-Unmount-clause-run g c = λ sure tells first number s run few stands.
+    let d = g.D.Disk in
+    subst (λ (x : Command). ComesTo d.known sure d.cells d.sector_count d.arming first number s x c.unmount_line.result) (sym c.in-Unmount.is) (c.unmount_line.ensures.run sure tells first number s run few stands)
+
+pub returns-in-Unmount-clause-untouched : goal.returns-in-Unmount-clause-untouched
+returns-in-Unmount-clause-untouched g c = λ told before is.
+    subst (λ (x : Command). StaysUntouched g.D.Disk.cells before x c.unmount_line.result) (sym c.in-Unmount.is) (c.unmount_line.ensures.untouched told before is)

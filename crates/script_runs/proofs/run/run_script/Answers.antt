@@ -1,16 +1,11 @@
-use Rattle.std.proofs.Common.{◌++◌, ◌∷◌, [], length-append, ℕ, false, ◌<◌, ◌≡◌, ◌≤◌, ◌+◌, List, ap, refl, sym, subst, ◌∙◌, arith, length, inl}
-use Rattle.std.specs.Prelude.{IsTrue, Some, get_or, slice_get}
-use Rattle.std.proofs.lemmas.Option.{slice_get-get_or}
+use Rattle.std.proofs.Common.{◌++◌, ◌∷◌, [], length-append, ℕ, false, ◌≡◌, ◌+◌, List, ap, refl, sym, subst, ◌∙◌, arith, length, inl}
 use Rattle.std.proofs.lemmas.Bool.{false≢true}
-use Rattle.life_bytes.specs.declared.sector.Sector.{Sector}
-use Rattle.life_table.specs.declared.types.MountRecord.{MountRecord}
 use Rattle.script.specs.declared.answers.Said.{Said}
-use Rattle.script.specs.declared.status.Status.{Status}
 use Rattle.script.specs.declared.status.Status.TheVariants as status
-use Rattle.disk_model.specs.Disk.{Cell}
 use Rattle.run_history.specs.Rows.{row_table}
-use Rattle.script_runs.proofs.Runs.{IsOver, LineClauses, RunsSoFar, begins, first-image-of, goes-on, headline-of, over-at, over-within, room-broken, safe-begin, handed-over, item-at}
-use Rattle.script_runs.specs.declared.running.Comes.TheVariants.{Answered, Unanswered}
+use Rattle.script_runs.proofs.Runs.{RunsSoFar, begins, first-image-of, goes-on, headline-of, over-at, over-within, room-broken, safe-begin, handed-over, item-at}
+use Rattle.script_runs.specs.Running.{disk_of_run, records_with}
+use Rattle.script_runs.proofs.RunTells.{TellsSoFar, begins_told, broken_told, goes_on_told, over_told}
 use Rattle.script_runs.proofs.run.run_script.Goals as goal
 
 pub loop-line-init : goal.loop-line-init
@@ -20,6 +15,7 @@ loop-line-init g c =
       so = begins d.known d.cells d.sector_count d.fault_count d.arming c.args.lines.now c.args.disk c.new-said.result.items _ c.runs_go_on.ensures.begins c.new-said.ensures.items c.new.ensures
           c.new-2.ensures.items refl c.requires.goes_on c.requires.unarmed;
       at = ap length c.new-said.ensures.items;
+      tells = begins_told d.fault_count c.args.disk c.new-said.result.items _ c.runs_tell_on.ensures.begins c.new-said.ensures.items c.new-2.ensures.items refl;
     }
 
 pub handed_back-requires : goal.handed_back-requires
@@ -53,6 +49,9 @@ loop-line-preserved g c =
           (goes-on d.known d.cells d.sector_count d.fault_count d.arming c.args.lines.now c.args.disk old c.loop-line.run c.in-Answered.next c.line-item.result c.in-Answered.one c.runs_go_on.ensures.goes_on c.requires.few
           (item-at c.args.lines.now c.loop-line.line-index (length c.loop-line.said.items) c.line-item.result c.loop-line.invariant.at c.loop-line-test.true c.line-item.is) c.loop-line.invariant.so (record { runs = c.in-Answered.ensures.run; untouched = c.in-Answered.ensures.untouched; sound = c.in-Answered.ensures.sound; count = c.in-Answered.ensures.count }));
       at = ap length said ∙ length-append old (c.in-Answered.one ∷ []) ∙ ap (λ (n : ℕ). n + 1) c.loop-line.invariant.at;
+      tells = subst (λ (l : List Said). TellsSoFar d.fault_count c.args.disk l c.in-Answered.next) (sym said)
+          (goes_on_told d.fault_count c.args.disk old c.in-Answered.one c.loop-line.run c.in-Answered.next c.runs_tell_on.ensures.grows c.runs_tell_on.ensures.goes_on c.loop-line.invariant.tells
+          c.in-Answered.ensures.log c.in-Answered.ensures.count);
     }
 
 pub handed_back-requires-2 : goal.handed_back-requires-2
@@ -111,3 +110,47 @@ returns-clause-first_image g c = λ told before is.
     let law = safe-begin (λ image first number is. (c.runs_without_lines_are_crash_safe.ensures.crash_safe image first number).1 is) in
     first-image-of law c.sound_images_represent_a_table.ensures.represents d.known c.args.lines.now (d.cells c.args.disk) (d.cells c.handed_back-2.result.disk)
     c.handed_back-2.result.status c.handed_back-2.result.said.items c.handed_back-2.result.mounts.items over told before is
+
+pub returns-then-is_err-clause-log : goal.returns-then-is_err-clause-log
+returns-then-is_err-clause-log g c =
+    let d = g.D.Disk in
+    let h = c.handed_back in
+    (over_told d.fault_count c.args.disk c.loop-line.invariant.tells.log c.loop-line.said.items h.result.said.items (records_with c.loop-line.run.past.items c.loop-line.run.device) h.result.mounts.items
+    (disk_of_run c.loop-line.run) h.result.disk c.loop-line.invariant.tells.told (h.ensures.said ∙ c.reserve.ensures.items) h.ensures.mounts h.ensures.disk).keeps
+
+pub returns-then-is_err-clause-faults : goal.returns-then-is_err-clause-faults
+returns-then-is_err-clause-faults g c =
+    let d = g.D.Disk in
+    let h = c.handed_back in
+    (over_told d.fault_count c.args.disk c.loop-line.invariant.tells.log c.loop-line.said.items h.result.said.items (records_with c.loop-line.run.past.items c.loop-line.run.device) h.result.mounts.items
+    (disk_of_run c.loop-line.run) h.result.disk c.loop-line.invariant.tells.told (h.ensures.said ∙ c.reserve.ensures.items) h.ensures.mounts h.ensures.disk).faults
+
+pub returns-in-Unanswered-clause-log : goal.returns-in-Unanswered-clause-log
+returns-in-Unanswered-clause-log g c =
+    let d = g.D.Disk in
+    let h = c.handed_back-in-Unanswered in
+    (over_told d.fault_count c.args.disk c.loop-line.invariant.tells.log c.loop-line.said.items h.result.said.items (records_with c.in-Unanswered.left.past.items c.in-Unanswered.left.device) h.result.mounts.items
+    (disk_of_run c.in-Unanswered.left) h.result.disk (broken_told d.fault_count c.args.disk c.loop-line.said.items c.loop-line.run c.in-Unanswered.left c.runs_tell_on.ensures.grows c.loop-line.invariant.tells
+    c.in-Unanswered.ensures.log c.in-Unanswered.ensures.count) (h.ensures.said ∙ c.reserve.ensures.items) h.ensures.mounts h.ensures.disk).keeps
+
+pub returns-in-Unanswered-clause-faults : goal.returns-in-Unanswered-clause-faults
+returns-in-Unanswered-clause-faults g c =
+    let d = g.D.Disk in
+    let h = c.handed_back-in-Unanswered in
+    (over_told d.fault_count c.args.disk c.loop-line.invariant.tells.log c.loop-line.said.items h.result.said.items (records_with c.in-Unanswered.left.past.items c.in-Unanswered.left.device) h.result.mounts.items
+    (disk_of_run c.in-Unanswered.left) h.result.disk (broken_told d.fault_count c.args.disk c.loop-line.said.items c.loop-line.run c.in-Unanswered.left c.runs_tell_on.ensures.grows c.loop-line.invariant.tells
+    c.in-Unanswered.ensures.log c.in-Unanswered.ensures.count) (h.ensures.said ∙ c.reserve.ensures.items) h.ensures.mounts h.ensures.disk).faults
+
+pub returns-clause-log : goal.returns-clause-log
+returns-clause-log g c =
+    let d = g.D.Disk in
+    let h = c.handed_back-2 in
+    (over_told d.fault_count c.args.disk c.loop-line.invariant.tells.log c.loop-line.said.items h.result.said.items (records_with c.loop-line.run.past.items c.loop-line.run.device) h.result.mounts.items
+    (disk_of_run c.loop-line.run) h.result.disk c.loop-line.invariant.tells.told h.ensures.said h.ensures.mounts h.ensures.disk).keeps
+
+pub returns-clause-faults : goal.returns-clause-faults
+returns-clause-faults g c =
+    let d = g.D.Disk in
+    let h = c.handed_back-2 in
+    (over_told d.fault_count c.args.disk c.loop-line.invariant.tells.log c.loop-line.said.items h.result.said.items (records_with c.loop-line.run.past.items c.loop-line.run.device) h.result.mounts.items
+    (disk_of_run c.loop-line.run) h.result.disk c.loop-line.invariant.tells.told h.ensures.said h.ensures.mounts h.ensures.disk).faults

@@ -1,10 +1,14 @@
-use Rattle.std.proofs.Common.{◌≡◌, [], subst, sym}
+use Rattle.std.proofs.Common.{◌≡◌, [], subst, sym, refl}
 use Rattle.script.specs.declared.types.Command.TheVariants as command
 use Rattle.script_runs.specs.Running.{ComesTo, IsRun, StandsWhereKnown, disk_of_device, records_with}
 use Rattle.script_runs.specs.declared.running.Comes.{Comes}
 use Rattle.script_runs.specs.declared.running.Device.{Device}
 use Rattle.script_runs.proofs.Made.{no_more_records, none_up}
 use Rattle.script_runs.proofs.Stops.{stopped_idle, stopped_mount}
+use Rattle.script.specs.declared.answers.LineReply.TheVariants as line
+use Rattle.script_runs.specs.Faults.{TellsOfLog}
+use Rattle.script_runs.specs.declared.running.Device.TheVariants as device
+use Rattle.script_runs.proofs.Tells.{same_line, stop_told, stops_mount}
 use Rattle.script_runs.proofs.stopping.stop_line.Goals as goal
 
 pub returns-in-Idle-clause-run : goal.returns-in-Idle-clause-run
@@ -29,3 +33,19 @@ pub returns-in-Mounted-clause-untouched : goal.returns-in-Mounted-clause-untouch
 returns-in-Mounted-clause-untouched g c = λ known before is.
     let r = c.args.run in
     absurd (no_more_records r.past.items c.in-Mounted.up.mounted.story (subst (λ (x : Device g.row.D.Denot). records_with r.past.items x ≡ []) c.in-Mounted.is is.none))
+
+pub returns-in-Idle-clause-log : goal.returns-in-Idle-clause-log
+returns-in-Idle-clause-log g c =
+    let d = g.D.Disk in
+    let r = c.args.run in
+    subst (λ (x : Device g.row.D.Denot). TellsOfLog d.fault_count r.past.items x c.answered.result) (sym c.in-Idle.is)
+    (subst (TellsOfLog d.fault_count r.past.items (device.Idle c.in-Idle.disk)) (sym c.answered.ensures)
+    (same_line d.fault_count r.past.items (device.Idle c.in-Idle.disk) (device.Idle c.restarted.result) r.names r.past line.Stopped refl
+    (stop_told d.fault_count (device.Idle c.in-Idle.disk) c.restarted.result)))
+
+pub returns-in-Mounted-clause-log : goal.returns-in-Mounted-clause-log
+returns-in-Mounted-clause-log g c =
+    let d = g.D.Disk in
+    let r = c.args.run in
+    subst (λ (x : Device g.row.D.Denot). TellsOfLog d.fault_count r.past.items x c.stopped_in.result) (sym c.in-Mounted.is)
+    (stops_mount d.cells d.arming d.fault_count r.names r.past.items c.in-Mounted.up c.in-Mounted.up c.stopped_in.result (λ place entry is. is) c.stopped_in.ensures)
