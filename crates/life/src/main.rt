@@ -4,7 +4,7 @@
 mod standard;
 
 use disk_file::FileImages;
-use life_cli::{Status, exit_code, top, write_whole};
+use life_cli::{Status, top, write_whole};
 use life_ports::{ReaderSource, WriterSink};
 use standard::hold_standard;
 use std::alloc::Global;
@@ -31,11 +31,11 @@ fn main(rt: HostRuntime) -> ExitCode {
     let mut sink = WriterSink::new(rt.stdout());
     let Ok(_held) = hold_standard(alloc, &rt) else {
         let _ = write_whole(&mut sink, b"open fault\n");
-        return ExitCode::from(exit_code(&Status::OpenFault));
+        return ExitCode::from(Status::OpenFault.exit_code());
     };
     let words = words_of(alloc, env::args(&rt));
     let mut images = FileImages::new(alloc, &rt);
     let mut source = ReaderSource::new(rt.stdin());
     let ended = top(alloc, &words, &mut images, &mut source, &mut sink);
-    ExitCode::from(exit_code(&ended.status))
+    ExitCode::from(ended.status.exit_code())
 }

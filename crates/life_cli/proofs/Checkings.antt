@@ -12,10 +12,11 @@ use Rattle.inspect.specs.declared.fault.InspectFault.TheVariants as fault
 use Rattle.inspect.specs.Faults.{NamesFirstDamage}
 use Rattle.inspect.specs.Inspected.{IsSoundWith}
 use Rattle.whole_image.specs.Damage.{FirstDamage, ImageRule, IsFirstDamage, IsSound, image_rule_number}
-use Rattle.thin_run.specs.declared.types.Status.{Status}
-use Rattle.thin_run.specs.declared.types.Status.TheVariants as status
-use Rattle.thin_run.specs.declared.types.MountRecord.{MountRecord}
-use Rattle.thin_run.specs.declared.types.Said.{Said}
+use Rattle.script.specs.declared.status.Status.{Status}
+use Rattle.script.specs.declared.status.Status.TheVariants as status
+use Rattle.life_table.specs.declared.types.MountRecord.{MountRecord}
+use Rattle.script.specs.declared.answers.GroupStory.{GroupStory}
+use Rattle.script.specs.declared.answers.Said.{Said}
 use Rattle.life_cli.specs.declared.checking.Numbers.{Numbers}
 use Rattle.life_cli.specs.Checking.{EndsCheck, IsChecking, IsRightAbout, RunsCheck, fault_status}
 use Rattle.life_cli.specs.Form.{IsCheck}
@@ -152,13 +153,13 @@ held_at true (Some image) old cells same given = same ∙ given refl
 
 -- a check of the disk that was attached
 pub RunsCheck-run : {I D : Type 0} (seen : ImagesSeen I D) (path : List ℕ) (images images_after : I) (own : Status) (disk : Option D) (found : Option Numbers)
-    (mounts : List MountRecord) (said : List Said) (given : D) → IsSome disk → IfSome disk (λ d. seen.cells d ≡ seen.cells given)
-    → IfSome disk (λ d. IsChecking seen.known (seen.cells d) (seen.disk_faults given) (seen.disk_faults d) own found) → EndsCheck own → IsEarly mounts said
+    (mounts : List MountRecord) (groups : List GroupStory) (said : List Said) (given : D) → IsSome disk → IfSome disk (λ d. seen.cells d ≡ seen.cells given)
+    → IfSome disk (λ d. IsChecking seen.known (seen.cells d) (seen.disk_faults given) (seen.disk_faults d) own found) → EndsCheck own → IsEarly mounts groups said
     → seen.given images_after ≡ seen.given images ++ attached path (seen.disk_faults given) ∷ []
     → (IsTrue seen.known → IfSome (seen.image_at images path) (λ image. seen.cells given ≡ settled_as image)) → (IsTrue seen.known → HasOneImage (seen.cells given))
-    → RunsCheck seen path images images_after own disk found mounts said
-RunsCheck-run seen path images images_after own None found mounts said given some same checked ends early attached image one = absurd (true≢false (sym some))
-RunsCheck-run seen path images images_after own (Some d) found mounts said given some same checked ends early attached image one = record {
+    → RunsCheck seen path images images_after own disk found mounts groups said
+RunsCheck-run seen path images images_after own None found mounts groups said given some same checked ends early attached image one = absurd (true≢false (sym some))
+RunsCheck-run seen path images images_after own (Some d) found mounts groups said given some same checked ends early attached image one = record {
   ends = ends;
   open_fault = λ is. absurd (checked.given is);
   checks = (
@@ -177,42 +178,43 @@ none_of (Some x) is = absurd (true≢false is)
 
 -- the same of what is told in another way
 pub RunsCheck-told : {I D : Type 0} (seen : ImagesSeen I D) (path : List ℕ) (images images_after : I) (own own' : Status) (disk disk' : Option D)
-    (found : Option Numbers) (mounts mounts' : List MountRecord) (said said' : List Said) → own' ≡ own → disk' ≡ disk → mounts' ≡ mounts → said' ≡ said
-    → RunsCheck seen path images images_after own disk found mounts said → RunsCheck seen path images images_after own' disk' found mounts' said'
-RunsCheck-told seen path images images_after own own' disk disk' found mounts mounts' said said' e d m s runs =
-    subst (λ (o : Status). RunsCheck seen path images images_after o disk' found mounts' said') (sym e)
-    (subst (λ (o : Option _). RunsCheck seen path images images_after own o found mounts' said') (sym d)
-    (subst (λ (l : List MountRecord). RunsCheck seen path images images_after own disk found l said') (sym m)
-    (subst (λ (l : List Said). RunsCheck seen path images images_after own disk found mounts l) (sym s) runs)))
+    (found : Option Numbers) (mounts mounts' : List MountRecord) (groups groups' : List GroupStory) (said said' : List Said) → own' ≡ own → disk' ≡ disk → mounts' ≡ mounts → groups' ≡ groups → said' ≡ said
+    → RunsCheck seen path images images_after own disk found mounts groups said → RunsCheck seen path images images_after own' disk' found mounts' groups' said'
+RunsCheck-told seen path images images_after own own' disk disk' found mounts mounts' groups groups' said said' e d m g' s runs =
+    subst (λ (o : Status). RunsCheck seen path images images_after o disk' found mounts' groups' said') (sym e)
+    (subst (λ (o : Option _). RunsCheck seen path images images_after own o found mounts' groups' said') (sym d)
+    (subst (λ (l : List MountRecord). RunsCheck seen path images images_after own disk found l groups' said') (sym m)
+    (subst (λ (l : List GroupStory). RunsCheck seen path images images_after own disk found mounts l said') (sym g')
+    (subst (λ (l : List Said). RunsCheck seen path images images_after own disk found mounts groups l) (sym s) runs))))
 
 -- a check that was given no disk
 pub RunsCheck-early : {I D : Type 0} (seen : ImagesSeen I D) (path : List ℕ) (images images_after : I) (own own' : Status) (disk : Option D)
-    (mounts : List MountRecord) (said : List Said) → own' ≡ own → IsNone disk → mounts ≡ [] → said ≡ [] → EndsCheck own → Yields own status.OpenFault
+    (mounts : List MountRecord) (groups : List GroupStory) (said : List Said) → own' ≡ own → IsNone disk → mounts ≡ [] → groups ≡ [] → said ≡ [] → EndsCheck own → Yields own status.OpenFault
     → (own ≡ status.OpenFault → Rose (seen.faults images) (seen.faults images_after)) → seen.given images_after ≡ seen.given images
-    → RunsCheck seen path images images_after own' disk None mounts said
-RunsCheck-early seen path images images_after own own' disk mounts said e none unmade unsaid ends yields rose given =
-    RunsCheck-told seen path images images_after own own' None disk None [] mounts [] said e (none_of disk none) unmade unsaid (record {
+    → RunsCheck seen path images images_after own' disk None mounts groups said
+RunsCheck-early seen path images images_after own own' disk mounts groups said e none unmade ungrouped unsaid ends yields rose given =
+    RunsCheck-told seen path images images_after own own' None disk None [] mounts [] groups [] said e (none_of disk none) unmade ungrouped unsaid (record {
       ends = ends;
       open_fault = rose;
       checks = (given, yields);
-      early = record { no_mount = refl; no_answer = refl };
+      early = record { no_mount = refl; no_group = refl; no_answer = refl };
     })
 
 -- the words name its path, and a disk that was attached is handed back
 pub check_back : {I D : Type 0} (seen : ImagesSeen I D) (words : List (String Global)) (path : List ℕ) (images images_after : I) (own : Status)
-    (disk : Option D) (found : Option Numbers) (mounts : List MountRecord) (said : List Said) → IsCheck words path
-    → RunsCheck seen path images images_after own disk found mounts said
-    → MatchOption disk ((seen.given images_after ≡ seen.given images) × IsEarly mounts said) (λ _. IsGiven words (seen.given images) (seen.given images_after))
-check_back seen words path images images_after own None found mounts said is runs = (runs.checks.0, runs.early)
-check_back seen words path images images_after own (Some d) found mounts said is runs =
+    (disk : Option D) (found : Option Numbers) (mounts : List MountRecord) (groups : List GroupStory) (said : List Said) → IsCheck words path
+    → RunsCheck seen path images images_after own disk found mounts groups said
+    → MatchOption disk ((seen.given images_after ≡ seen.given images) × IsEarly mounts groups said) (λ _. IsGiven words (seen.given images) (seen.given images_after))
+check_back seen words path images images_after own None found mounts groups said is runs = (runs.checks.0, runs.early)
+check_back seen words path images images_after own (Some d) found mounts groups said is runs =
     (path, ap (λ (l : List (List ℕ)). slice_get l 1) is.0, (runs.checks.0, inl runs.checks.1))
 
 -- one was attached where it ended well
 pub check_disk : {I D : Type 0} (seen : ImagesSeen I D) (path : List ℕ) (images images_after : I) (own ended : Status) (disk : Option D)
-    (found : Option Numbers) (mounts : List MountRecord) (said : List Said) → RunsCheck seen path images images_after own disk found mounts said → Yields ended own
+    (found : Option Numbers) (mounts : List MountRecord) (groups : List GroupStory) (said : List Said) → RunsCheck seen path images images_after own disk found mounts groups said → Yields ended own
     → ended ≡ status.Good → IsSome disk
-check_disk seen path images images_after own ended None found mounts said runs yields good =
+check_disk seen path images images_after own ended None found mounts groups said runs yields good =
     let well : own ≡ status.Good = own_status ended own status.Good yields (λ e. cc) (λ e. cc) good in
     let not : status.OpenFault ≡ status.Good = own_status own status.OpenFault status.Good runs.checks.1 (λ e. cc) (λ e. cc) well in
     absurd cc
-check_disk seen path images images_after own ended (Some d) found mounts said runs yields good = refl
+check_disk seen path images images_after own ended (Some d) found mounts groups said runs yields good = refl

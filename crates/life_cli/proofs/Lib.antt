@@ -1,10 +1,9 @@
 pub mod Checkings
 pub mod Forms
-pub mod Lines
 pub mod Makings
-pub mod Openings
 pub mod Parses
 pub mod Positionals
+pub mod Scripts
 pub mod Shortages
 pub mod Statuses
 pub mod Stepping

@@ -4,10 +4,11 @@ use Rattle.std.proofs.lemmas.Fmt.{decimal_injective}
 use Rattle.std.specs.Fmt.{decimal}
 use Rattle.std.specs.Option.{MatchOption}
 use Rattle.geometry.specs.declared.shape.Geometry.{Geometry}
-use Rattle.thin_run.specs.declared.types.Status.{Status}
-use Rattle.thin_run.specs.declared.types.Status.TheVariants as status
-use Rattle.thin_run.specs.declared.types.MountRecord.{MountRecord}
-use Rattle.thin_run.specs.declared.types.Said.{Said}
+use Rattle.script.specs.declared.status.Status.{Status}
+use Rattle.script.specs.declared.status.Status.TheVariants as status
+use Rattle.life_table.specs.declared.types.MountRecord.{MountRecord}
+use Rattle.script.specs.declared.answers.GroupStory.{GroupStory}
+use Rattle.script.specs.declared.answers.Said.{Said}
 use Rattle.life_cli.specs.Form.{IsMake, IsMade, IsOnImage, made_geometry}
 use Rattle.life_cli.specs.Making.{RunsMake}
 use Rattle.life_cli.specs.Outcome.{IsEarly, IsGiven, Yields}
@@ -50,27 +51,28 @@ own_status result ended x (inr (inr e)) sink memory is = absurd (memory (sym e �
 
 -- the same of what is told in another way
 pub RunsMake-told : {I D : Type 0} (seen : ImagesSeen I D) (path : List ℕ) (g : Geometry) (images images_after : I) (own : Status) (disk disk' : Option D)
-    (mounts mounts' : List MountRecord) (said said' : List Said) → disk' ≡ disk → mounts' ≡ mounts → said' ≡ said
-    → RunsMake seen path g images images_after own disk mounts said → RunsMake seen path g images images_after own disk' mounts' said'
-RunsMake-told seen path g images images_after own disk disk' mounts mounts' said said' d m s runs =
-    subst (λ (o : Option _). RunsMake seen path g images images_after own o mounts' said') (sym d)
-    (subst (λ (l : List MountRecord). RunsMake seen path g images images_after own disk l said') (sym m)
-    (subst (λ (l : List Said). RunsMake seen path g images images_after own disk mounts l) (sym s) runs))
+    (mounts mounts' : List MountRecord) (groups groups' : List GroupStory) (said said' : List Said) → disk' ≡ disk → mounts' ≡ mounts → groups' ≡ groups → said' ≡ said
+    → RunsMake seen path g images images_after own disk mounts groups said → RunsMake seen path g images images_after own disk' mounts' groups' said'
+RunsMake-told seen path g images images_after own disk disk' mounts mounts' groups groups' said said' d m g' s runs =
+    subst (λ (o : Option _). RunsMake seen path g images images_after own o mounts' groups' said') (sym d)
+    (subst (λ (l : List MountRecord). RunsMake seen path g images images_after own disk l groups' said') (sym m)
+    (subst (λ (l : List GroupStory). RunsMake seen path g images images_after own disk mounts l said') (sym g')
+    (subst (λ (l : List Said). RunsMake seen path g images images_after own disk mounts groups l) (sym s) runs)))
 
 -- the words name its path, and a disk that was created is handed back
 pub make_back : {I D : Type 0} (seen : ImagesSeen I D) (words : List (String Global)) (path : List ℕ) (g : Geometry) (images images_after : I) (own : Status)
-    (disk : Option D) (mounts : List MountRecord) (said : List Said) → IsMake words path g → RunsMake seen path g images images_after own disk mounts said
-    → MatchOption disk ((seen.given images_after ≡ seen.given images) × IsEarly mounts said) (λ _. IsGiven words (seen.given images) (seen.given images_after))
-make_back seen words path g images images_after own None mounts said is runs = (runs.makes.0, runs.early)
-make_back seen words path g images images_after own (Some d) mounts said is runs =
+    (disk : Option D) (mounts : List MountRecord) (groups : List GroupStory) (said : List Said) → IsMake words path g → RunsMake seen path g images images_after own disk mounts groups said
+    → MatchOption disk ((seen.given images_after ≡ seen.given images) × IsEarly mounts groups said) (λ _. IsGiven words (seen.given images) (seen.given images_after))
+make_back seen words path g images images_after own None mounts groups said is runs = (runs.makes.0, runs.early)
+make_back seen words path g images images_after own (Some d) mounts groups said is runs =
     (path, ap (λ (l : List (List ℕ)). slice_get l 1) is.0, (runs.makes.0, inr runs.makes.1))
 
 -- one was created where it ended well
 pub make_disk : {I D : Type 0} (seen : ImagesSeen I D) (path : List ℕ) (g : Geometry) (images images_after : I) (own ended : Status) (disk : Option D)
-    (mounts : List MountRecord) (said : List Said) → RunsMake seen path g images images_after own disk mounts said → Yields ended own → ended ≡ status.Good
+    (mounts : List MountRecord) (groups : List GroupStory) (said : List Said) → RunsMake seen path g images images_after own disk mounts groups said → Yields ended own → ended ≡ status.Good
     → IsSome disk
-make_disk seen path g images images_after own ended None mounts said runs yields good =
+make_disk seen path g images images_after own ended None mounts groups said runs yields good =
     let well : own ≡ status.Good = own_status ended own status.Good yields (λ e. cc) (λ e. cc) good in
     let not : status.OpenFault ≡ status.Good = own_status own status.OpenFault status.Good runs.makes.1 (λ e. cc) (λ e. cc) well in
     absurd cc
-make_disk seen path g images images_after own ended (Some d) mounts said runs yields good = refl
+make_disk seen path g images images_after own ended (Some d) mounts groups said runs yields good = refl

@@ -2,15 +2,16 @@
 use Rattle.std.proofs.Common.{◌≡◌, inl, inr, [], ℕ, List, Option, IsNone, None, Some, refl, arith}
 use Rattle.std.specs.Option.{MatchOption}
 use Rattle.geometry.specs.declared.shape.Geometry.{Geometry}
-use Rattle.thin_run.specs.declared.types.Status.{Status}
-use Rattle.thin_run.specs.declared.types.Status.TheVariants as status
-use Rattle.thin_run.specs.declared.types.MountRecord.{MountRecord}
-use Rattle.thin_run.specs.declared.types.Said.{Said}
+use Rattle.script.specs.declared.status.Status.{Status}
+use Rattle.script.specs.declared.status.Status.TheVariants as status
+use Rattle.life_table.specs.declared.types.MountRecord.{MountRecord}
+use Rattle.script.specs.Texts.{output}
+use Rattle.script.specs.declared.answers.GroupStory.{GroupStory}
+use Rattle.script.specs.declared.answers.Said.{Said}
 use Rattle.life_cli.specs.Input.{TakesAtMost}
 use Rattle.life_cli.specs.Making.{RunsMake}
 use Rattle.life_cli.specs.Outcome.{IsWritten, RunsNothing, Yields}
 use Rattle.life_cli.specs.Outside.{ImagesSeen}
-use Rattle.life_cli.specs.Texts.{run_lines}
 
 -- it ended with no other status than these two
 pub no_other : (ended : Status) → Yields ended status.NoMemory → (ended ≡ status.NoMemory → ⊥) → (ended ≡ status.SinkFault → ⊥) → ⊥
@@ -19,11 +20,11 @@ no_other ended (inr (inl e)) memory sink = sink e
 no_other ended (inr (inr e)) memory sink = memory e
 
 -- its output is that of any run that was out of memory
-pub written_of : (before after : Option (List ℕ)) (mounts : List MountRecord) (said : List Said) (lines : Status → List ℕ) (own ended : Status) → mounts ≡ [] → said ≡ []
-    → Yields ended status.NoMemory → IsWritten before after (run_lines mounts said) status.NoMemory ended → IsWritten before after lines own ended
-written_of before after mounts said lines own ended unmade unsaid yields written = at ended yields (rw (unmade, unsaid) at written)
+pub written_of : (before after : Option (List ℕ)) (mounts : List MountRecord) (groups : List GroupStory) (said : List Said) (told : Status → List ℕ) (own ended : Status) → mounts ≡ [] → groups ≡ [] → said ≡ []
+    → Yields ended status.NoMemory → IsWritten before after (output said mounts groups) status.NoMemory ended → IsWritten before after told own ended
+written_of before after mounts groups said told own ended unmade ungrouped unsaid yields written = at ended yields (rw (unmade, ungrouped, unsaid) at written)
   where
-    at : (ended : Status) → Yields ended status.NoMemory → IsWritten before after (run_lines [] []) status.NoMemory ended → IsWritten before after lines own ended
+    at : (ended : Status) → Yields ended status.NoMemory → IsWritten before after (output [] [] []) status.NoMemory ended → IsWritten before after told own ended
     at status.SinkFault yields (inl e) = inr e
     at status.SinkFault yields (inr e) = inr e
     at status.NoMemory yields (inl e) = inr e
@@ -38,6 +39,8 @@ written_of before after mounts said lines own ended unmade unsaid yields written
     at status.ReadFault yields written = absurd (no_other status.ReadFault yields (λ e. cc) (λ e. cc))
     at status.WriteFault yields written = absurd (no_other status.WriteFault yields (λ e. cc) (λ e. cc))
     at status.FlushFault yields written = absurd (no_other status.FlushFault yields (λ e. cc) (λ e. cc))
+    at status.PositionEnd yields written = absurd (no_other status.PositionEnd yields (λ e. cc) (λ e. cc))
+    at (status.Down count) yields written = absurd (no_other (status.Down count) yields (λ e. cc) (λ e. cc))
 
 -- so it is a run of words in no form too
 pub short_yields : (ended own : Status) → Yields ended status.NoMemory → Yields ended own
@@ -46,24 +49,24 @@ short_yields ended own (inr (inl e)) = inr (inl e)
 short_yields ended own (inr (inr e)) = inr (inr e)
 
 -- no image was made
-pub RunsMake-short : {I D : Type 0} (seen : ImagesSeen I D) (path : List ℕ) (g : Geometry) (images : I) (disk : Option D) (mounts : List MountRecord) (said : List Said)
-    → IsNone disk → mounts ≡ [] → said ≡ [] → RunsMake seen path g images images status.NoMemory disk mounts said
-RunsMake-short seen path g images None mounts said none unmade unsaid = record {
+pub RunsMake-short : {I D : Type 0} (seen : ImagesSeen I D) (path : List ℕ) (g : Geometry) (images : I) (disk : Option D) (mounts : List MountRecord) (groups : List GroupStory) (said : List Said)
+    → IsNone disk → mounts ≡ [] → groups ≡ [] → said ≡ [] → RunsMake seen path g images images status.NoMemory disk mounts groups said
+RunsMake-short seen path g images None mounts groups said none unmade ungrouped unsaid = record {
   ends = tt;
   open_fault = λ (e : status.NoMemory ≡ status.OpenFault). absurd cc;
   makes = (refl, inr (inr refl));
-  early = record { no_mount = unmade; no_answer = unsaid };
+  early = record { no_mount = unmade; no_group = ungrouped; no_answer = unsaid };
 }
-RunsMake-short seen path g images (Some d) mounts said none unmade unsaid = absurd cc
+RunsMake-short seen path g images (Some d) mounts groups said none unmade ungrouped unsaid = absurd cc
 
 -- nothing was done
-pub RunsNothing-short : {I D : Type 0} (images : I) (disk : Option D) (mounts : List MountRecord) (said : List Said) → IsNone disk → mounts ≡ [] → said ≡ []
-    → RunsNothing images images status.Usage disk mounts said
-RunsNothing-short images disk mounts said none unmade unsaid = record {
+pub RunsNothing-short : {I D : Type 0} (images : I) (disk : Option D) (mounts : List MountRecord) (groups : List GroupStory) (said : List Said) → IsNone disk → mounts ≡ [] → groups ≡ [] → said ≡ []
+    → RunsNothing images images status.Usage disk mounts groups said
+RunsNothing-short images disk mounts groups said none unmade ungrouped unsaid = record {
   usage = refl;
   untouched = refl;
   no_disk = none;
-  early = record { no_mount = unmade; no_answer = unsaid };
+  early = record { no_mount = unmade; no_group = ungrouped; no_answer = unsaid };
 }
 
 -- nothing was taken of the script

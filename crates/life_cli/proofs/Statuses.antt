@@ -1,10 +1,10 @@
 -- When each status comes.
 use Rattle.std.proofs.Common.{◌≡◌, ◌≤◌, ◌<◌, inl, inr, ℕ, List, Option, None, Some, length, refl, sym, ◌∙◌, subst, arith}
-use Rattle.thin_run.specs.declared.types.Status.{Status}
-use Rattle.thin_run.specs.declared.types.Status.TheVariants as status
+use Rattle.script.specs.declared.status.Status.{Status}
+use Rattle.script.specs.declared.status.Status.TheVariants as status
 use Rattle.life_limits.specs.declared.TheConstants.{MAX_SCRIPT_BYTES}
-use Rattle.life_cli.specs.Outcome.{Yields, YieldsRead, EndsAs, WhereKnown, IsReadable, IsOutsideAt, CompletesAs, FaultsExactly, IsTooLongExactly}
-use Rattle.life_cli.specs.Script.{first_outside, lines_of}
+use Rattle.life_cli.specs.Outcome.{Yields, YieldsRead, EndsAs, WhereKnown, IsReadable, IsFaultAt, CompletesAs, FaultsExactly, IsTooLongExactly}
+use Rattle.life_cli.proofs.Scripts.{ScriptLaws, not_readable, one_fault}
 
 -- the status that was due comes, unless something failed
 widened : (result ended expected : Status) → Yields result ended → ended ≡ expected → YieldsRead result expected
@@ -19,37 +19,33 @@ by_memory : (result expected : Status) → Yields result status.NoMemory → Yie
 by_memory result expected (inl e) = inr (inr (inr e))
 by_memory result expected (inr other) = inr (inr other)
 
--- a line outside the grammar is in no readable script
-not_readable : (bytes : List ℕ) (line : ℕ) → IsReadable bytes → IsOutsideAt bytes line → ⊥
-not_readable bytes line readable outside =
-    let none : first_outside 1 (lines_of bytes) ≡ None = readable.inside in
-    let some : first_outside 1 (lines_of bytes) ≡ Some line = outside.outside in
-    cc
-
-due_fault : (bytes : List ℕ) (a b c d : ℕ) (ended result : Status) → EndsAs (Some bytes) a b c d ended → Yields result ended
-    → (line : ℕ) → IsOutsideAt bytes line → YieldsRead result (status.ScriptFault line 0)
-due_fault bytes a b c d status.Good result ends yields line outside = absurd (not_readable bytes line ends outside)
-due_fault bytes a b c d status.Usage result ends yields line outside = absurd ends
-due_fault bytes a b c d (status.ScriptFault other rule) result ends yields line outside =
-    let first : Some other ≡ Some line = sym ends.1.outside ∙ outside.outside in
-    let rule_is : rule ≡ 0 = ends.0 in
-    let same : status.ScriptFault other rule ≡ status.ScriptFault line 0 = cc in
-    widened result (status.ScriptFault other rule) (status.ScriptFault line 0) yields same
-due_fault bytes a b c d status.ScriptTooLong result ends yields line outside =
-    let short : length bytes ≤ MAX_SCRIPT_BYTES = outside.short in
+due_fault : ScriptLaws → (bytes : List ℕ) (a b c d : ℕ) (ended result : Status) → EndsAs (Some bytes) a b c d ended → Yields result ended
+    → (line rule : ℕ) → IsFaultAt bytes line rule → YieldsRead result (status.ScriptFault line rule)
+due_fault law bytes a b c d status.Good result ends yields line rule fault = absurd (not_readable law bytes line rule ends fault)
+due_fault law bytes a b c d status.Usage result ends yields line rule fault = absurd ends
+due_fault law bytes a b c d (status.ScriptFault other named) result ends yields line rule fault =
+    let one = one_fault law bytes other line named rule ends fault in
+    let lines : other ≡ line = one.0 in
+    let rules : named ≡ rule = one.1 in
+    let same : status.ScriptFault other named ≡ status.ScriptFault line rule = cc in
+    widened result (status.ScriptFault other named) (status.ScriptFault line rule) yields same
+due_fault law bytes a b c d status.ScriptTooLong result ends yields line rule fault =
+    let short : length bytes ≤ MAX_SCRIPT_BYTES = fault.short in
     let long : MAX_SCRIPT_BYTES < length bytes = ends in
     absurd (omega arith)
-due_fault bytes a b c d status.OpenFault result ends yields line outside = absurd (not_readable bytes line ends.1 outside)
-due_fault bytes a b c d status.SourceFault result ends yields line outside = by_source result (status.ScriptFault line 0) yields
-due_fault bytes a b c d status.SinkFault result ends yields line outside = absurd ends
-due_fault bytes a b c d (status.Damaged rule sector) result ends yields line outside = absurd ends
-due_fault bytes a b c d status.ReadFault result ends yields line outside = absurd ends
-due_fault bytes a b c d status.WriteFault result ends yields line outside = absurd ends
-due_fault bytes a b c d status.FlushFault result ends yields line outside = absurd ends
-due_fault bytes a b c d status.NoMemory result ends yields line outside = by_memory result (status.ScriptFault line 0) yields
+due_fault law bytes a b c d status.OpenFault result ends yields line rule fault = absurd (not_readable law bytes line rule ends.1 fault)
+due_fault law bytes a b c d status.SourceFault result ends yields line rule fault = by_source result (status.ScriptFault line rule) yields
+due_fault law bytes a b c d status.SinkFault result ends yields line rule fault = absurd ends
+due_fault law bytes a b c d (status.Damaged broken sector) result ends yields line rule fault = absurd ends
+due_fault law bytes a b c d status.ReadFault result ends yields line rule fault = absurd ends
+due_fault law bytes a b c d status.WriteFault result ends yields line rule fault = absurd ends
+due_fault law bytes a b c d status.FlushFault result ends yields line rule fault = absurd ends
+due_fault law bytes a b c d status.PositionEnd result ends yields line rule fault = absurd ends
+due_fault law bytes a b c d status.NoMemory result ends yields line rule fault = by_memory result (status.ScriptFault line rule) yields
+due_fault law bytes a b c d (status.Down count) result ends yields line rule fault = absurd ends
 
 named_fault : (bytes : List ℕ) (a b c d : ℕ) (ended result : Status) → EndsAs (Some bytes) a b c d ended → Yields result ended
-    → (line rule : ℕ) → result ≡ status.ScriptFault line rule → (rule ≡ 0) × IsOutsideAt bytes line
+    → (line rule : ℕ) → result ≡ status.ScriptFault line rule → IsFaultAt bytes line rule
 named_fault bytes a b c d ended result ends (inl e) line rule is = subst (λ (s : Status). EndsAs (Some bytes) a b c d s) (sym e ∙ is) ends
 named_fault bytes a b c d ended result ends (inr (inl e)) line rule is =
     let bad : status.SinkFault ≡ status.ScriptFault line rule = sym e ∙ is in
@@ -59,12 +55,12 @@ named_fault bytes a b c d ended result ends (inr (inr e)) line rule is =
     absurd cc
 
 -- a script fault comes exactly where it is due
-pub FaultsExactly-from : (script : Option (List ℕ)) (a b c d : ℕ) (ended result : Status) → EndsAs script a b c d ended → Yields result ended
+pub FaultsExactly-from : ScriptLaws → (script : Option (List ℕ)) (a b c d : ℕ) (ended result : Status) → EndsAs script a b c d ended → Yields result ended
     → WhereKnown script (λ bytes. FaultsExactly bytes result)
-FaultsExactly-from None a b c d ended result ends yields = tt
-FaultsExactly-from (Some bytes) a b c d ended result ends yields = record {
+FaultsExactly-from law None a b c d ended result ends yields = tt
+FaultsExactly-from law (Some bytes) a b c d ended result ends yields = record {
   named = named_fault bytes a b c d ended result ends yields;
-  exact = due_fault bytes a b c d ended result ends yields;
+  exact = due_fault law bytes a b c d ended result ends yields;
 }
 
 due_long : (bytes : List ℕ) (a b c d : ℕ) (ended result : Status) → EndsAs (Some bytes) a b c d ended → Yields result ended
@@ -74,7 +70,7 @@ due_long bytes a b c d status.Good result ends yields long =
     absurd (omega arith)
 due_long bytes a b c d status.Usage result ends yields long = absurd ends
 due_long bytes a b c d (status.ScriptFault other rule) result ends yields long =
-    let short : length bytes ≤ MAX_SCRIPT_BYTES = ends.1.short in
+    let short : length bytes ≤ MAX_SCRIPT_BYTES = ends.short in
     absurd (omega arith)
 due_long bytes a b c d status.ScriptTooLong result ends yields long = widened result status.ScriptTooLong status.ScriptTooLong yields refl
 due_long bytes a b c d status.OpenFault result ends yields long =
@@ -86,7 +82,9 @@ due_long bytes a b c d (status.Damaged rule sector) result ends yields long = ab
 due_long bytes a b c d status.ReadFault result ends yields long = absurd ends
 due_long bytes a b c d status.WriteFault result ends yields long = absurd ends
 due_long bytes a b c d status.FlushFault result ends yields long = absurd ends
+due_long bytes a b c d status.PositionEnd result ends yields long = absurd ends
 due_long bytes a b c d status.NoMemory result ends yields long = by_memory result status.ScriptTooLong yields
+due_long bytes a b c d (status.Down count) result ends yields long = absurd ends
 
 named_long : (bytes : List ℕ) (a b c d : ℕ) (ended result : Status) → EndsAs (Some bytes) a b c d ended → Yields result ended
     → result ≡ status.ScriptTooLong → MAX_SCRIPT_BYTES < length bytes
@@ -107,26 +105,40 @@ IsTooLongExactly-from (Some bytes) a b c d ended result ends yields = record {
   exact = due_long bytes a b c d ended result ends yields;
 }
 
-complete : (bytes : List ℕ) (a b c d : ℕ) (ended result : Status) → EndsAs (Some bytes) a b c d ended → Yields result ended → IsReadable bytes → CompletesAs result
-complete bytes a b c d status.Good result ends yields readable = inr (inr yields)
-complete bytes a b c d status.Usage result ends yields readable = absurd ends
-complete bytes a b c d (status.ScriptFault line rule) result ends yields readable = absurd (not_readable bytes line readable ends.1)
-complete bytes a b c d status.ScriptTooLong result ends yields readable =
+complete : ScriptLaws → (bytes : List ℕ) (a b c d : ℕ) (ended result : Status) → EndsAs (Some bytes) a b c d ended → Yields result ended → IsReadable bytes → CompletesAs result
+complete law bytes a b c d status.Good result ends yields readable = inr (inr yields)
+complete law bytes a b c d status.Usage result ends yields readable = absurd ends
+complete law bytes a b c d (status.ScriptFault line rule) result ends yields readable = absurd (not_readable law bytes line rule readable ends)
+complete law bytes a b c d status.ScriptTooLong result ends yields readable =
     let short : length bytes ≤ MAX_SCRIPT_BYTES = readable.short in
     let long : MAX_SCRIPT_BYTES < length bytes = ends in
     absurd (omega arith)
-complete bytes a b c d status.OpenFault result ends (inl e) readable = inl e
-complete bytes a b c d status.OpenFault result ends (inr other) readable = inr (inr (inr other))
-complete bytes a b c d status.SourceFault result ends yields readable = inr (by_source result status.Good yields)
-complete bytes a b c d status.SinkFault result ends yields readable = absurd ends
-complete bytes a b c d (status.Damaged rule sector) result ends yields readable = absurd ends
-complete bytes a b c d status.ReadFault result ends yields readable = absurd ends
-complete bytes a b c d status.WriteFault result ends yields readable = absurd ends
-complete bytes a b c d status.FlushFault result ends yields readable = absurd ends
-complete bytes a b c d status.NoMemory result ends yields readable = inr (by_memory result status.Good yields)
+complete law bytes a b c d status.OpenFault result ends (inl e) readable = inl e
+complete law bytes a b c d status.OpenFault result ends (inr other) readable = inr (inr (inr other))
+complete law bytes a b c d status.SourceFault result ends yields readable = inr (by_source result status.Good yields)
+complete law bytes a b c d status.SinkFault result ends yields readable = absurd ends
+complete law bytes a b c d (status.Damaged rule sector) result ends yields readable = absurd ends
+complete law bytes a b c d status.ReadFault result ends yields readable = absurd ends
+complete law bytes a b c d status.WriteFault result ends yields readable = absurd ends
+complete law bytes a b c d status.FlushFault result ends yields readable = absurd ends
+complete law bytes a b c d status.PositionEnd result ends yields readable = absurd ends
+complete law bytes a b c d status.NoMemory result ends yields readable = inr (by_memory result status.Good yields)
+complete law bytes a b c d (status.Down count) result ends yields readable = absurd ends
 
 -- a readable script ends well, unless something failed
-pub CompletesAs-from : (script : Option (List ℕ)) (a b c d : ℕ) (ended result : Status) → EndsAs script a b c d ended → Yields result ended
+pub CompletesAs-from : ScriptLaws → (script : Option (List ℕ)) (a b c d : ℕ) (ended result : Status) → EndsAs script a b c d ended → Yields result ended
     → WhereKnown script (λ bytes. IsReadable bytes → CompletesAs result)
-CompletesAs-from None a b c d ended result ends yields = tt
-CompletesAs-from (Some bytes) a b c d ended result ends yields = complete bytes a b c d ended result ends yields
+CompletesAs-from law None a b c d ended result ends yields = tt
+CompletesAs-from law (Some bytes) a b c d ended result ends yields = complete law bytes a b c d ended result ends yields
+
+-- a run that was out of memory names no line, and may have been due to
+pub FaultsExactly-memory : (script : Option (List ℕ)) → WhereKnown script (λ bytes. FaultsExactly bytes status.NoMemory)
+FaultsExactly-memory None = tt
+FaultsExactly-memory (Some bytes) = record {
+  named = λ (line rule : ℕ) (is : status.NoMemory ≡ status.ScriptFault line rule). absurd cc;
+  exact = λ line rule fault. inr (inr (inr refl));
+}
+
+pub CompletesAs-memory : (script : Option (List ℕ)) → WhereKnown script (λ bytes. IsReadable bytes → CompletesAs status.NoMemory)
+CompletesAs-memory None = tt
+CompletesAs-memory (Some bytes) = λ readable. inr (inr (inr (inr refl)))

@@ -11,10 +11,11 @@ use Rattle.inspect.specs.declared.fault.InspectFault.{InspectFault}
 use Rattle.inspect.specs.declared.fault.InspectFault.TheVariants as fault
 use Rattle.inspect.specs.Inspected.{IsSoundWith}
 use Rattle.whole_image.specs.Damage.{IsFirstDamage, IsSound}
-use Rattle.thin_run.specs.declared.types.Status.{Status}
-use Rattle.thin_run.specs.declared.types.Status.TheVariants as status
-use Rattle.thin_run.specs.declared.types.MountRecord.{MountRecord}
-use Rattle.thin_run.specs.declared.types.Said.{Said}
+use Rattle.script.specs.declared.status.Status.{Status}
+use Rattle.script.specs.declared.status.Status.TheVariants as status
+use Rattle.life_table.specs.declared.types.MountRecord.{MountRecord}
+use Rattle.script.specs.declared.answers.GroupStory.{GroupStory}
+use Rattle.script.specs.declared.answers.Said.{Said}
 use Rattle.life_cli.specs.declared.checking.Numbers.{Numbers}
 use Rattle.life_cli.specs.Outcome.{IsEarly, Yields}
 use Rattle.life_cli.specs.Outside.{ImagesSeen, image_before}
@@ -38,7 +39,9 @@ EndsCheck (status.Damaged rule sector) = ⊤
 EndsCheck status.ReadFault = ⊤
 EndsCheck status.WriteFault = ⊥
 EndsCheck status.FlushFault = ⊥
+EndsCheck status.PositionEnd = ⊥
 EndsCheck status.NoMemory = ⊤
+EndsCheck (status.Down fault) = ⊥
 
 -- a check ended so, unless a read failed or memory lacked
 abbrev pub YieldsChecked : Status → Status → Type 0
@@ -70,11 +73,11 @@ Checks known cells faults path image old new disk ended found =
 -- A check of the image at a path: the images before and after it, the run's own status, the disk that is handed back, the numbers that are written, and what it
 -- tells.
 pub record RunsCheck {I D : Type 0} (seen : ImagesSeen I D) (path : List ℕ) (images images_after : I)
-    (own : Status) (disk : Option D) (found : Option Numbers) (mounts : List MountRecord) (said : List Said) : Type 0 where
+    (own : Status) (disk : Option D) (found : Option Numbers) (mounts : List MountRecord) (groups : List GroupStory) (said : List Said) : Type 0 where
   -- it ends in no other way
   pub ends : EndsCheck own
   pub open_fault : own ≡ status.OpenFault → Rose (seen.faults images) (seen.faults images_after)
   -- The disk at the path was attached and checked, and every image of it is as it was; or none could be attached.
   pub checks : Checks seen.known seen.cells seen.disk_faults path (image_before seen images path) (seen.given images) (seen.given images_after) disk own found
   -- it gives no answers
-  pub early : IsEarly mounts said
+  pub early : IsEarly mounts groups said

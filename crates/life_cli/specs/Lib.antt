@@ -5,7 +5,6 @@ pub mod Making
 pub mod Outcome
 pub mod Output
 pub mod Outside
-pub mod Script
 pub mod Steps
 pub mod Texts
 pub mod Words

@@ -11,10 +11,11 @@ use Rattle.image_make.specs.declared.fault.MakeFault.{MakeFault}
 use Rattle.image_make.specs.declared.fault.MakeFault.TheVariants as fault
 use Rattle.image_make.specs.Empty.{AwaitsSuperblock}
 use Rattle.image_make.specs.Outcome.{IsBlankOrEmpty, IsEmptyImage}
-use Rattle.thin_run.specs.declared.types.Status.{Status}
-use Rattle.thin_run.specs.declared.types.Status.TheVariants as status
-use Rattle.thin_run.specs.declared.types.MountRecord.{MountRecord}
-use Rattle.thin_run.specs.declared.types.Said.{Said}
+use Rattle.script.specs.declared.status.Status.{Status}
+use Rattle.script.specs.declared.status.Status.TheVariants as status
+use Rattle.life_table.specs.declared.types.MountRecord.{MountRecord}
+use Rattle.script.specs.declared.answers.GroupStory.{GroupStory}
+use Rattle.script.specs.declared.answers.Said.{Said}
 use Rattle.life_cli.specs.Outcome.{IsEarly, Yields}
 use Rattle.life_cli.specs.Outside.{ImagesSeen}
 
@@ -41,7 +42,9 @@ EndsMake (status.Damaged rule sector) = ⊥
 EndsMake status.ReadFault = ⊥
 EndsMake status.WriteFault = ⊤
 EndsMake status.FlushFault = ⊤
+EndsMake status.PositionEnd = ⊥
 EndsMake status.NoMemory = ⊤
+EndsMake (status.Down fault) = ⊥
 
 -- A disk was created for an image, with so many faults then, and now it has these cells, sectors and faults. Where the run ended well, its one image is the
 -- empty one. Each image that a stop may leave has no superblock, or is that one.
@@ -62,11 +65,11 @@ Makes known cells sectors faults path g old new disk ended =
 
 -- A run that makes an image of this geometry at a path: the images before and after it, the run's own status, the disk that is handed back, and what it tells.
 pub record RunsMake {I D : Type 0} (seen : ImagesSeen I D) (path : List ℕ) (g : Geometry) (images images_after : I)
-    (own : Status) (disk : Option D) (mounts : List MountRecord) (said : List Said) : Type 0 where
+    (own : Status) (disk : Option D) (mounts : List MountRecord) (groups : List GroupStory) (said : List Said) : Type 0 where
   -- it ends in no other way
   pub ends : EndsMake own
   pub open_fault : own ≡ status.OpenFault → Rose (seen.faults images) (seen.faults images_after)
   -- A disk was created and made, or none could be created. What stands there where it ended well is the image without a file.
   pub makes : Makes seen.known seen.cells seen.sectors seen.disk_faults path g (seen.given images) (seen.given images_after) disk own
   -- it gives no answers
-  pub early : IsEarly mounts said
+  pub early : IsEarly mounts groups said

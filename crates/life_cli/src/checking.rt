@@ -3,16 +3,16 @@
 ghost use Rattle.std.specs.Prelude.{◌≡◌, IfSome, IsSome};
 ghost use Rattle.life_cli.specs.Checking.{EndsCheck, IsChecking, RunsCheck, fault_status};
 ghost use Rattle.life_cli.specs.Outcome.{IsEarly};
-ghost use Rattle.thin_run.specs.declared.types.Status.{Status};
+ghost use Rattle.script.specs.declared.status.Status.{Status};
 
-use crate::ending::ended_early;
+use crate::ending::{Ended, ended_early};
 use disk_model::{Disk, Images};
 use geometry::Geometry;
 use image_rules::Tables;
 use inspect::{InspectFault, inspect};
 use life_ports::Refused;
+use script::Status;
 use std::alloc::Global;
-use thin_run::{Ended, Status};
 use whole_image::one_first_damage;
 
 /// What a check finds in a sound image: its geometry, and how many chunks, inodes in use, and inodes in use without links its table has.
@@ -44,13 +44,14 @@ fn ended_with<D>(alloc: Global, disk: D, status: Status, found: Option<Numbers>)
     ensures disk { result.ended.disk ≡ Some disk }
     ensures status { result.ended.status ≡ status }
     ensures found { result.found ≡ found }
-    ensures early { IsEarly result.ended.mounts.items result.ended.said.items }
+    ensures early { IsEarly result.ended.mounts.items result.ended.groups.items result.ended.said.items }
 {
     Checked {
         ended: Ended {
             status,
             disk: Some(disk),
             mounts: Vec::new(alloc),
+            groups: Vec::new(alloc),
             said: Vec::new(alloc),
         },
         found,
@@ -63,7 +64,7 @@ fn check_disk<D: Disk>(alloc: Global, mut disk: D) -> Checked<D>
     ensures untouched { IfSome result.ended.disk (λ after. D.cells after ≡ D.cells disk) }
     ensures checked { IfSome result.ended.disk (λ after. IsChecking D.known (D.cells after) (D.fault_count disk) (D.fault_count after)
         result.ended.status result.found) }
-    ensures early { IsEarly result.ended.mounts.items result.ended.said.items }
+    ensures early { IsEarly result.ended.mounts.items result.ended.groups.items result.ended.said.items }
     ensures ends { EndsCheck result.ended.status }
 {
     one_first_damage();
@@ -91,7 +92,7 @@ pub fn run_check<I: Images>(alloc: Global, path: &str, images: &mut I) -> Checke
       sectors = I.Disk.sector_count;
       disk_faults = I.Disk.fault_count;
     })
-        path.now images.old images.new result.ended.status result.ended.disk result.found result.ended.mounts.items result.ended.said.items }
+        path.now images.old images.new result.ended.status result.ended.disk result.found result.ended.mounts.items result.ended.groups.items result.ended.said.items }
 {
     match images.attach(path) {
         Ok(disk) => check_disk(alloc, disk),

@@ -7,13 +7,13 @@ ghost use Rattle.geometry.specs.Shape.{IsGeometry};
 ghost use Rattle.life_cli.specs.Making.{EndsMake, IsMaking, RunsMake, make_status, sectors_of};
 ghost use Rattle.life_cli.specs.Outcome.{IsEarly};
 
-use crate::ending::ended_early;
+use crate::ending::{Ended, ended_early};
 use disk_model::{Disk, Images};
 use geometry::{Geometry, image_sectors};
 use image_make::{MakeFault, make};
 use life_ports::Refused;
+use script::Status;
 use std::alloc::Global;
-use thin_run::{Ended, Status};
 
 fn status_of(made: Result<(), MakeFault>) -> Status
     ensures status { result ≡ make_status made }
@@ -33,7 +33,7 @@ fn make_on<D: Disk>(alloc: Global, mut disk: D, g: &Geometry) -> Ended<D>
     requires blank { IsTrue D.known → D.cells disk ≡ settled_as (replicate (D.sector_count disk) zero_sector) }
     ensures disk { IsSome result.disk }
     ensures making { IfSome result.disk (λ after. IsMaking D.known g.now (D.cells after) (D.sector_count after) (D.fault_count disk) (D.fault_count after) result.status) }
-    ensures early { IsEarly result.mounts.items result.said.items }
+    ensures early { IsEarly result.mounts.items result.groups.items result.said.items }
     ensures ends { EndsMake result.status }
 {
     let made = make(g, &mut disk);
@@ -41,6 +41,7 @@ fn make_on<D: Disk>(alloc: Global, mut disk: D, g: &Geometry) -> Ended<D>
         status: status_of(made),
         disk: Some(disk),
         mounts: Vec::new(alloc),
+        groups: Vec::new(alloc),
         said: Vec::new(alloc),
     }
 }
@@ -62,7 +63,7 @@ pub fn run_make<I: Images>(
       sectors = I.Disk.sector_count;
       disk_faults = I.Disk.fault_count;
     })
-        path.now g.now images.old images.new result.status result.disk result.mounts.items result.said.items }
+        path.now g.now images.old images.new result.status result.disk result.mounts.items result.groups.items result.said.items }
 {
     match images.create(path, image_sectors(g)) {
         Ok(disk) => make_on(alloc, disk, g),

@@ -9,18 +9,19 @@ ghost use Rattle.life_cli.specs.Form.{IsCheck, IsMake, IsNoForm, IsSteps};
 ghost use Rattle.life_cli.specs.Making.{RunsMake, sectors_of};
 ghost use Rattle.life_cli.specs.Outcome.{EndsWith, IsEarly, IsGiven, RunsNothing};
 ghost use Rattle.life_cli.specs.Steps.{RunsSteps};
-ghost use Rattle.life_cli.specs.Texts.{check_lines, make_lines, run_lines};
-ghost use Rattle.thin_run.specs.declared.types.Status.TheVariants as status;
+ghost use Rattle.life_cli.specs.Texts.{check_output, make_output};
+ghost use Rattle.script.specs.Texts.{output};
+ghost use Rattle.script.specs.declared.status.Status.TheVariants as status;
 
 use crate::checking::{Checked, run_check};
-use crate::ending::{ended_early, write_check, write_make, write_run, write_shortage};
+use crate::ending::{Ended, ended_early, write_check, write_make, write_run, write_shortage};
 use crate::form::{Form, read_form};
 use crate::making::run_make;
 use crate::steps::run_steps;
 use disk_model::Images;
 use life_ports::{NoMemory, Sink, Source};
+use script::Status;
 use std::alloc::Global;
-use thin_run::{Ended, Status};
 
 /// Runs the program's words over these images, a script and a sink.
 ///
@@ -45,8 +46,8 @@ pub fn top<I: Images, S: Source, K: Sink>(
           disk_faults = I.Disk.fault_count;
         })
         (record { bytes_left = S.bytes_left; faults = S.fault_count }) path images.old images.new script.old script.new
-        own result.disk result.mounts.items result.said.items)
-        (run_lines result.mounts.items result.said.items) (K.bytes_held out.old) (K.bytes_held out.new) result.status }
+        own result.disk result.mounts.items result.groups.items result.said.items)
+        (output result.said.items result.mounts.items result.groups.items) (K.bytes_held out.old) (K.bytes_held out.new) result.status }
     ensures make { (path : List ℕ) (g : Geometry) → IsMake words.now path g → EndsWith (λ own. RunsMake
         (record {
           given = I.given;
@@ -57,8 +58,8 @@ pub fn top<I: Images, S: Source, K: Sink>(
           sectors = I.Disk.sector_count;
           disk_faults = I.Disk.fault_count;
         })
-        path g images.old images.new own result.disk result.mounts.items result.said.items)
-        (make_lines (sectors_of g)) (K.bytes_held out.old) (K.bytes_held out.new) result.status }
+        path g images.old images.new own result.disk result.mounts.items result.groups.items result.said.items)
+        (make_output (sectors_of g)) (K.bytes_held out.old) (K.bytes_held out.new) result.status }
     ensures check { (path : List ℕ) → IsCheck words.now path → (found : Option Numbers) × EndsWith (λ own. RunsCheck
         (record {
           given = I.given;
@@ -69,11 +70,11 @@ pub fn top<I: Images, S: Source, K: Sink>(
           sectors = I.Disk.sector_count;
           disk_faults = I.Disk.fault_count;
         })
-        path images.old images.new own result.disk found result.mounts.items result.said.items)
-        (check_lines found) (K.bytes_held out.old) (K.bytes_held out.new) result.status }
+        path images.old images.new own result.disk found result.mounts.items result.groups.items result.said.items)
+        (check_output found) (K.bytes_held out.old) (K.bytes_held out.new) result.status }
     ensures no_form { IsNoForm words.now → EndsWith (λ own. RunsNothing images.old images.new
-        own result.disk result.mounts.items result.said.items)
-        (run_lines [] []) (K.bytes_held out.old) (K.bytes_held out.new) result.status }
+        own result.disk result.mounts.items result.groups.items result.said.items)
+        (output [] [] []) (K.bytes_held out.old) (K.bytes_held out.new) result.status }
 
     // Of every form: the words are faulty only where they are in none, and the sink failed only where its count rose.
     ensures usage { result.status ≡ status.Usage → IsNoForm words.now }
@@ -84,7 +85,7 @@ pub fn top<I: Images, S: Source, K: Sink>(
 
     // A disk is handed back exactly where one was given, which is at most one, and where the run ended well.
     ensures handed_back { MatchOption result.disk
-        ((I.given images.new ≡ I.given images.old) × IsEarly result.mounts.items result.said.items)
+        ((I.given images.new ≡ I.given images.old) × IsEarly result.mounts.items result.groups.items result.said.items)
         (λ _. IsGiven words.now (I.given images.old) (I.given images.new)) }
     ensures disk { result.status ≡ status.Good → IsSome result.disk }
 {

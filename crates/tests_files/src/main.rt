@@ -1,10 +1,10 @@
-//! Runs of the program over what is no image, in an empty folder: what each writes, and its exit status. At the end, what the files hold that stood there before.
+//! Runs of the program over files, in an empty folder: what each writes, and its exit status. First over what is no image, with what the files hold then that stood there before; then over an image that is made.
 //!
 //! What a run can't make by itself, as a pipe or a file without rights, is in `bin/odd_images`.
 #![tactic(auto)]
 
 use disk_file::FileImages;
-use life_cli::{exit_code, top};
+use life_cli::top;
 use life_ports::{MemorySink, MemorySource, Sink, WriterSink};
 use std::alloc::Global;
 use std::fs::OpenOptions;
@@ -61,17 +61,40 @@ const RUNS: [Told; 10] = [
 ];
 
 const MADE: Told = Told {
+    words: &["make", "made.img", "1", "64", "256"],
+    script: "",
+};
+
+// Runs over an image that was made, with a part of a sector behind it.
+const RUNS_ON_MADE: [Told; 3] = [
+    Told {
+        words: &["steps", "made.img"],
+        script: "mount\ncreate 0 a\nsync\ncreate 0 b\n",
+    },
+    Told {
+        words: &["steps", "made.img"],
+        script: "mount\ncreate 0 c\nstop 1 1\nsync\n",
+    },
+    Told {
+        words: &["check", "made.img"],
+        script: "",
+    },
+];
+
+const MADE_FULL: Told = Told {
     words: &["make", "full.img", "1", "64", "256"],
     script: "",
 };
 
-const CHECKED: Told = Told {
+const CHECKED_FULL: Told = Told {
     words: &["check", "full.img"],
     script: "",
 };
 
-// The sectors of an image of the first kind, and a part of one.
-const IMAGE_BYTES: usize = 72 * 512;
+// Some whole sectors without an image, an image that is made, and a part of a sector.
+const ODD_BYTES: usize = 72 * 512;
+
+const MADE_BYTES: usize = 769 * 512;
 
 const PART: [u8; 100] = [7; 100];
 
@@ -91,7 +114,7 @@ fn run(rt: &HostRuntime, told: &Told, out: &mut impl Sink) -> io::Result<u8> {
     let mut source = MemorySource::new(script, Vec::new(alloc));
     let mut images = FileImages::new(alloc, rt);
     let ended = top(alloc, &words, &mut images, &mut source, out);
-    Ok(exit_code(&ended.status))
+    Ok(ended.status.exit_code())
 }
 
 // Runs these words, and tells what that wrote, and its exit status.
@@ -113,7 +136,7 @@ fn put_files(rt: &HostRuntime) -> io::Result<()> {
     fs::create_dir(rt, "folder")?;
     fs::write(rt, "folder/kept", PART.as_slice())?;
     fs::write(rt, "short.img", PART.as_slice())?;
-    let mut odd = vec![in rt.alloc(); 0u8; IMAGE_BYTES]?;
+    let mut odd = vec![in rt.alloc(); 0u8; ODD_BYTES]?;
     odd.extend_from_slice(&PART)?;
     fs::write(rt, "odd.img", odd.as_slice())
 }
@@ -134,22 +157,37 @@ fn tell_runs(rt: &HostRuntime) -> io::Result<()> {
     }
     let folder = has_behind(rt, "folder/kept", 0, &PART)?;
     let short = has_behind(rt, "short.img", 0, &PART)?;
-    let odd = has_behind(rt, "odd.img", IMAGE_BYTES, &PART)?;
+    let odd = has_behind(rt, "odd.img", ODD_BYTES, &PART)?;
     println!(rt; "kept: folder {folder}, short.img {short}, the part behind odd.img {odd}")?;
+    Ok(())
+}
+
+// An image that is made keeps what runs sync, and what stands behind it.
+fn tell_made(rt: &HostRuntime) -> io::Result<()> {
+    tell(rt, &MADE)?;
+    let mut made = fs::read(rt, "made.img")?;
+    made.extend_from_slice(&PART)?;
+    fs::write(rt, "made.img", made.as_slice())?;
+    for told in &RUNS_ON_MADE {
+        tell(rt, told)?;
+    }
+    let kept = has_behind(rt, "made.img", MADE_BYTES, &PART)?;
+    println!(rt; "kept: the part behind made.img {kept}")?;
     Ok(())
 }
 
 // An image that is made is whole also where the device is full to which the output is written.
 fn tell_full(rt: &HostRuntime) -> io::Result<()> {
     let device = OpenOptions::new().write(true).open(rt, "/dev/full")?;
-    let status = run(rt, &MADE, &mut WriterSink::new(device))?;
+    let status = run(rt, &MADE_FULL, &mut WriterSink::new(device))?;
     println!(rt; "make full.img with a full output: status {status}")?;
-    tell(rt, &CHECKED)
+    tell(rt, &CHECKED_FULL)
 }
 
 fn tell_all(rt: &HostRuntime) -> io::Result<()> {
     put_files(rt)?;
     tell_runs(rt)?;
+    tell_made(rt)?;
     tell_full(rt)
 }
 

@@ -3,7 +3,6 @@
 use crate::images::{Change, apply, change, clear, first_file_image, made_image, sectors_of};
 use crate::runs::{disk_with, run_words};
 use life_bytes::Sector;
-use life_cli::exit_code;
 use std::alloc::Global;
 use std::process::Abort;
 use std::test::Fail;
@@ -24,7 +23,7 @@ fn answers(
     let mut images = disk_with(alloc, image.to_vec(alloc)?, vec![in alloc; fails_at]?)?;
     let ended = run_words(alloc, &mut images, &["check", "disk"], "")?;
     assert_eq!(rt; ended.written.as_str(), written, "call {fails_at}");
-    assert_eq!(rt; exit_code(&ended.status), status, "call {fails_at}");
+    assert_eq!(rt; ended.status.exit_code(), status, "call {fails_at}");
     let after = sectors_of(alloc, ended.disk)?;
     assert!(rt; after.as_slice() == image, "changed by the check");
     Ok(())
@@ -270,7 +269,7 @@ fn no_image_is_an_open_fault(rt: HostRuntime) -> Result<(), Fail> {
     let mut images = disk_with(alloc, made_image(alloc)?, Vec::new(alloc))?;
     let ended = run_words(alloc, &mut images, &["check", "elsewhere"], "")?;
     assert!(rt; ended.wrote("open fault\n"));
-    assert_eq!(rt; exit_code(&ended.status), 5);
+    assert_eq!(rt; ended.status.exit_code(), 5);
     assert!(rt; ended.disk.is_none());
     Ok(())
 }

@@ -27,11 +27,15 @@ pub(crate) fn sectors_of(
     Ok(sectors)
 }
 
-/// What `make` leaves: one group of 64 blocks, and a ring of 256 sectors from sector 513 on.
-pub(crate) fn made_image(alloc: Global) -> Result<Vec<Sector>, Fail> {
-    let words = ["make", "s", "1", "64", "256"];
-    let ended = run_words(alloc, &mut no_disk(alloc), &words, "")?;
+/// What `make` leaves with these words.
+pub(crate) fn made_with(alloc: Global, words: &[&str]) -> Result<Vec<Sector>, Fail> {
+    let ended = run_words(alloc, &mut no_disk(alloc), words, "")?;
     sectors_of(alloc, ended.disk)
+}
+
+/// What it leaves of one group of 64 blocks, and a ring of 256 sectors from sector 513 on.
+pub(crate) fn made_image(alloc: Global) -> Result<Vec<Sector>, Fail> {
+    made_with(alloc, &["make", "s", "1", "64", "256"])
 }
 
 fn put(image: &mut Vec<Sector>, at: usize, sector: Sector) {

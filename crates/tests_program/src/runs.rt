@@ -4,9 +4,9 @@ use disk_model::{Blank, FaultDisk, MemoryDisk, MemoryImages};
 use life_bytes::Sector;
 use life_cli::top;
 use life_ports::{MemorySink, MemorySource};
+use script::Status;
 use std::alloc::Global;
 use std::test::Fail;
-use thin_run::Status;
 
 pub(crate) type Disks = MemoryImages<FaultDisk<MemoryDisk>>;
 
@@ -34,14 +34,9 @@ fn words_of(alloc: Global, words: &[&str]) -> Result<Vec<String>, Fail> {
     Ok(all)
 }
 
-// Images with this disk as a stop with this choice leaves it, which fails at these calls.
-fn listed(
-    alloc: Global,
-    mut disk: MemoryDisk,
-    choice: u64,
-    fails: Vec<u64>,
-) -> Result<Disks, Fail> {
-    disk.pick(choice);
+// Images with this disk as a crash leaves it, which fails at these calls.
+fn listed(alloc: Global, mut disk: MemoryDisk, fails: Vec<u64>) -> Result<Disks, Fail> {
+    disk.pick(0);
     let mut images = MemoryImages::new(alloc, Vec::new(alloc));
     let disk = FaultDisk::new(disk, fails);
     if images.is_listed("disk") || images.add("disk", disk).is_err() {
@@ -61,20 +56,12 @@ pub(crate) fn disk_with(
     sectors: Vec<Sector>,
     fails: Vec<u64>,
 ) -> Result<Disks, Fail> {
-    listed(alloc, MemoryDisk::with(alloc, sectors)?, 0, fails)
+    listed(alloc, MemoryDisk::with(alloc, sectors)?, fails)
 }
 
 /// Images with one disk of so many zero sectors, which fails at these calls.
 pub(crate) fn one_disk(alloc: Global, sectors: u64, fails: Vec<u64>) -> Result<Disks, Fail> {
-    listed(alloc, MemoryDisk::blank(alloc, sectors)?, 0, fails)
-}
-
-// Images with the disk that a run handed back, as a stop with this choice leaves it.
-fn stopped(alloc: Global, disk: Option<FaultDisk<MemoryDisk>>, choice: u64) -> Result<Disks, Fail> {
-    let Some(disk) = disk else {
-        return Err(Fail::from("no disk was handed back"));
-    };
-    listed(alloc, disk.into_inner(), choice, Vec::new(alloc))
+    listed(alloc, MemoryDisk::blank(alloc, sectors)?, fails)
 }
 
 /// A run with these words over these images, whose script comes from this source.
@@ -111,13 +98,13 @@ pub(crate) fn run_words(
     )
 }
 
-/// A run over the disk that another handed back, as a stop with this choice leaves it.
-pub(crate) fn next_run(
+/// A run of a script over a disk of these sectors, which fails at these calls.
+pub(crate) fn run_script(
     alloc: Global,
-    disk: Option<FaultDisk<MemoryDisk>>,
-    choice: u64,
+    sectors: Vec<Sector>,
+    fails: Vec<u64>,
     script: &str,
 ) -> Result<Outcome, Fail> {
-    let mut images = stopped(alloc, disk, choice)?;
+    let mut images = disk_with(alloc, sectors, fails)?;
     run_words(alloc, &mut images, &["steps", "disk"], script)
 }

@@ -1,5 +1,5 @@
 use Rattle.std.proofs.Common.{◌∙◌, Err, None, Some, ap}
-use Rattle.thin_run.specs.declared.types.Status.TheVariants as status
+use Rattle.script.specs.declared.status.Status.TheVariants as status
 use Rattle.life_cli.specs.declared.checking.Numbers.{Numbers}
 use Rattle.life_cli.specs.Checking.{fault_status}
 use Rattle.life_cli.proofs.Checkings.{OneDamage, checked_fault, checked_sound, checked_told}

@@ -1,3 +1,0 @@
-pub mod Inodes
-pub mod NextRecord
-pub mod Replay
