@@ -1,0 +1,3 @@
+pub mod Permitting
+pub mod Standing
+pub mod Turning
